@@ -1,0 +1,16 @@
+-- What tables of precomputed registers hold. Internal: the private functions of the crates above cite these, no public contract does.
+-- Assumes nothing.
+use mathlib.Core.Path.{_≡_}
+use mathlib.Core.List.{List}
+use Prim.Native.Nat.{ℕ, zero, suc, _+_, _*_, _<_}
+use lib.ListN.{getD}
+use Rattle.crc.specs.Crc.{Kind, bits, byte}
+
+-- the register after n bytes of zero
+unfoldable pub zeroBytes : Kind → ℕ → ℕ → ℕ
+zeroBytes k zero r = r
+zeroBytes k (suc n) r = zeroBytes k n (bits k 8 r)
+
+-- n tables of 256 entries, one after the other: in table m, at j, the register after the byte j and m bytes of zero, from 0
+unfoldable pub Tabled : Kind → ℕ → List ℕ → Type 0
+Tabled k n t = (m j : ℕ) → m < n → j < 256 → getD t (m * 256 + j) 0 ≡ zeroBytes k m (byte k 0 j)

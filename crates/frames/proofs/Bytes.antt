@@ -1,0 +1,14 @@
+-- Lists of bytes. Assumes nothing.
+use mathlib.Core.List.{List, [], _∷_, _++_}
+use Prim.Native.Nat.{ℕ, zero, suc}
+use lib.ListN.{drop}
+use Rattle.frames.specs.Frame.{Bytes}
+
+pub bytes-drop : (n : ℕ) (s : List ℕ) → Bytes s → Bytes (drop n s)
+bytes-drop zero s p = p
+bytes-drop (suc n) [] p = p
+bytes-drop (suc n) (b ∷ s) p = bytes-drop n s (p .1)
+
+pub bytes-append : (s t : List ℕ) → Bytes s → Bytes t → Bytes (s ++ t)
+bytes-append [] t p q = q
+bytes-append (b ∷ s) t p q = (p .0, bytes-append s t (p .1) q)

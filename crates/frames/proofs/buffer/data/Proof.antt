@@ -1,0 +1,71 @@
+-- `frames::buffer::data` meets its contract. Assumes nothing.
+use borrow.Author.Needs.{needs}
+use mathlib.Core.Path.{_≡_, sym, ap, _∙_}
+use mathlib.Core.Bool.{Bool, cond}
+use mathlib.Core.List.{List, []}
+use Prim.Native.Nat.{ℕ, _+_, _-_, _≤_}
+use native.Mathlib.Omega.{arith}
+use lib.ListN.{length, take, drop}
+use Rattle.frames.specs.Frame.{headerSize, frameSize, lengthAt, frameAt}
+use Rattle.frames.specs.Buffer.{wholeAt, dataAt}
+use Rattle.frames.proofs.Fronts.{is-whole, whole-passed}
+use Rattle.frames.proofs.buffer.data.Statement.{statement}
+use Rattle.frames.proofs.buffer.data.Tie as tie
+
+-- a whole frame begins at the first byte of s
+module _ (c : tie.Then1) where
+  abbrev s : List ℕ
+  s = c .before .before .before .args .s .now
+
+  all-there : frameSize (lengthAt s) ≤ length s
+  unfolding wholeAt
+  all-there = whole-passed s (is-whole _ (sym (c .before .whole .ensures) ∙ c .if1 .taken)) .there
+
+whole-requires : tie.Need-whole-requires
+whole-requires c κs = search needs
+
+length-at-requires : tie.Need-length-at-requires
+length-at-requires c κs = omega (arith, all-there c)
+
+add-end : tie.Need-add-end
+add-end c = search needs
+
+sub-result : tie.Need-sub-result
+sub-result c = search needs
+
+part-result-start : tie.Need-part-result-start
+part-result-start c = search needs
+
+part-result-end : tie.Need-part-result-end
+part-result-end c = omega (arith, all-there (c .before))
+
+slice-aggregate-result : tie.Need-slice-aggregate-result
+slice-aggregate-result c = search needs
+
+returns : tie.Need-returns
+unfolding dataAt wholeAt frameAt
+returns c =
+    let o = c .before .before in
+    let n : headerSize + c .before .length-at .result - headerSize ≡ lengthAt (s o) = omega arith in
+    ap (λ (k : ℕ). take k (drop headerSize (s o))) n
+    ∙ sym (ap (λ (b : Bool). cond b (frameAt (s o) .payload) []) (sym (o .before .whole .ensures) ∙ o .if1 .taken))
+
+returns-2 : tie.Need-returns-2
+unfolding dataAt wholeAt frameAt
+returns-2 c =
+    let bytes = c .before .before .before .before .args .s .now in
+    sym (ap (λ (b : Bool). cond b (frameAt bytes .payload) []) (sym (c .before .before .whole .ensures) ∙ c .before .if1 .left))
+
+pub data-spec : {M : Type 1} → statement M
+data-spec =
+    tie.close
+    (tie.spec
+    whole-requires
+    length-at-requires
+    add-end
+    sub-result
+    part-result-start
+    part-result-end
+    slice-aggregate-result
+    returns
+    returns-2)

@@ -1,0 +1,31 @@
+// A frame at the first byte of a whole buffer. Bytes after the frame do not matter.
+use crate::front::Front;
+use crate::front::front_of;
+use crate::header;
+ghost use mathlib.Core.Path.{_≡_};
+ghost use Rattle.frames.specs.Buffer.{wholeAt, dataAt};
+
+// Whether a whole frame begins at the first byte of s.
+pub fn whole(s: &[u8]) -> bool
+    ensures { λ r. ⌜ r ≡ wholeAt (now (s .entry)) ⌝ }
+{
+    let f = front_of(s);
+    match f {
+        Front::Whole => true,
+        Front::Dead => false,
+        Front::Open => false,
+    }
+}
+
+// The data of the frame at the first byte of s, as that part of s. Without a frame the part is empty, and so it is for a frame
+// without data: `whole` tells the two apart.
+pub fn data(s: &[u8]) -> &[u8]
+    ensures { λ r. ⌜ now r ≡ dataAt (now (s .entry)) ⌝ }
+{
+    if whole(s) {
+        let end = header::SIZE + header::length_at(s);
+        &s[header::SIZE..end]
+    } else {
+        &s[..0]
+    }
+}

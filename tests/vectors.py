@@ -1,0 +1,33 @@
+#!/usr/bin/env python3
+"""What the program `vectors` must print, by other implementations: zlib's CRC-32, binascii's CRC-16/CCITT, and a frame made here.
+
+tests/vectors.py > crates/vectors/stdout    makes the stored output anew.
+"""
+import binascii
+import zlib
+
+message = bytes(i * 7 % 251 for i in range(600))
+
+
+def sums(label, s):
+    crc32 = zlib.crc32(s)
+    print(f"{label} {binascii.crc_hqx(s, 0xFFFF):04x} {crc32:08x} {crc32:08x}")
+
+
+def frame(n, size):
+    data, room = message[:n], bytes([0xEE]) * size
+    written = 0
+    if n <= 519 and 7 + n <= size:
+        body = bytes([0x55, 0xAA, 0x10, 0xFD, n >> 8, n & 255]) + data
+        room = body + bytes([sum(body) & 255]) + room[7 + n:]
+        written = 7 + n
+    read = data if written else b""
+    print(f"frame {n} in {size}: {written} {zlib.crc32(room):08x} {'whole' if written else 'none'} {zlib.crc32(read):08x}")
+
+
+for n in range(68):
+    sums(n, message[:n])
+sums("123456789", b"123456789")
+sums(600, message)
+for n, size in [(0, 526), (1, 526), (256, 526), (519, 526), (519, 525), (520, 526)]:
+    frame(n, size)
