@@ -7,7 +7,7 @@ ghost use Rattle.crc.specs.Crc.{byte, update, crc32};
 ghost use Rattle.crc.specs.Tables.{zeroBytes, Tabled};
 
 // The register after the bytes of s.
-pub fn over(t: &[u32; 4096], register: u32, s: &[u8]) -> u32
+pub(crate) fn over(t: &[u32; 4096], register: u32, s: &[u8]) -> u32
     requires { ⌜ Tabled crc32 16 (now t) ⌝ }
     ensures { λ r. ⌜ r ≡ update crc32 register (now (s .entry)) ⌝ }
 {

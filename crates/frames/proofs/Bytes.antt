@@ -1,7 +1,8 @@
 -- Lists of bytes. Assumes nothing.
 use mathlib.Core.List.{List, [], _∷_, _++_}
-use Prim.Native.Nat.{ℕ, zero, suc}
-use lib.ListN.{drop}
+use Prim.Native.Nat.{ℕ, zero, suc, _<_}
+use native.Mathlib.Omega.{arith}
+use lib.ListN.{drop, getD}
 use Rattle.frames.specs.Frame.{Bytes}
 
 pub bytes-drop : (n : ℕ) (s : List ℕ) → Bytes s → Bytes (drop n s)
@@ -12,3 +13,8 @@ bytes-drop (suc n) (b ∷ s) p = bytes-drop n s (p .1)
 pub bytes-append : (s t : List ℕ) → Bytes s → Bytes t → Bytes (s ++ t)
 bytes-append [] t p q = q
 bytes-append (b ∷ s) t p q = (p .0, bytes-append s t (p .1) q)
+
+pub bytes-at : (s : List ℕ) (i : ℕ) → Bytes s → getD s i 0 < 256
+bytes-at [] i p = omega arith
+bytes-at (b ∷ s) zero p = p .0
+bytes-at (b ∷ s) (suc i) p = bytes-at s i (p .1)

@@ -1,5 +1,5 @@
 -- The laws that belong to no one function, by subject. The crates above cite those marked `pub mod`, and no definition's text.
-mod Orders
+pub mod Orders
 mod Sums
 pub mod Bytes
 pub mod Fronts

@@ -18,7 +18,7 @@ pub const HEAD_2: u8 = 0xAA;
 pub const MAX_HIGH: u8 = (MAX_DATA / 256) as u8;
 
 // L, as the header at the front of s announces it.
-pub fn length_at(s: &[u8]) -> usize
+pub(crate) fn length_at(s: &[u8]) -> usize
     requires { ⌜ headerSize ≤ length (now s) ⌝ }
     ensures { λ r. ⌜ (r ≡ lengthAt (now (s .entry))) × (r < 65536) ⌝ }
 {
@@ -26,7 +26,7 @@ pub fn length_at(s: &[u8]) -> usize
 }
 
 // Writes the header of a frame of n data bytes to the front of room.
-pub fn write(version: u8, command: u8, n: usize, room: &mut [u8])
+pub(crate) fn write(version: u8, command: u8, n: usize, room: &mut [u8])
     requires { ⌜ (n ≤ maxData) × (headerSize ≤ length (now room)) ⌝ }
     ensures { λ _. ⌜ now (room .exit) ≡ sets (now (room .entry)) 0 (head1 ∷ head2 ∷ version ∷ command ∷ n / 256 ∷ n % 256 ∷ []) ⌝ }
 {

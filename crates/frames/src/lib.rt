@@ -9,6 +9,7 @@
 //
 // What each of them means stands in specs/, in the words of document 01; nothing here looks at commands.
 pub mod buffer;
+pub mod finished;
 pub mod front;
 mod header;
 pub mod number;

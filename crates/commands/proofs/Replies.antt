@@ -1,0 +1,81 @@
+-- A reply as a frame: whether there is one, its fields, its size, and that it reads back. Assumes nothing.
+use mathlib.Core.Path.{_≡_, refl, sym, ap, _∙_}
+use mathlib.Core.Bool.{Bool, true, false, cond}
+use mathlib.Core.List.{List, _++_}
+use Prim.Native.Nat.{ℕ, _+_, _≤_, _<_}
+use native.Mathlib.Omega.{arith}
+use borrow.Author.Tests.{le-ltb, lt-ltb, ltb-true}
+use lib.Dec.{ltb}
+use lib.ListN.{length, take, drop, length-take}
+use lib.Seq.{length-take-le}
+use Rattle.frames.specs.Frame.{maxData, frameSize, Frame, encode, frameAt}
+use Rattle.frames.specs.Buffer.{wholeAt, writable, writtenSize, writtenRoom}
+use Rattle.frames.proofs.Writes.{writable-fits}
+use Rattle.frames.proofs.RoundTrips.{size-written, room-written, whole-written, frame-written}
+use Rattle.commands.specs.declared.table.Row.{Row}
+use Rattle.commands.specs.Table.{placeOf, rowAt}
+use Rattle.commands.specs.Replies.{maxReply, replyFrame, hasReply, replySize, replyRoom}
+use Rattle.commands.proofs.Rows.{reply-short}
+
+-- the frame that a row makes of a command and a reply's data
+abbrev pub byRow : Row → ℕ → List ℕ → Frame
+byRow r command d = record { version = r .«reply_version»; command = command; payload = take (r .«reply_length») d }
+
+pub by-row : (command : ℕ) (d : List ℕ) → replyFrame command d ≡ byRow (rowAt (placeOf command)) command d
+unfolding replyFrame
+by-row command d = refl
+
+pub no-reply : (command : ℕ) → rowAt (placeOf command) .«reply_length» ≡ 0 → hasReply command ≡ false
+unfolding hasReply
+no-reply command e = le-ltb 0 (rowAt (placeOf command) .«reply_length») (omega arith)
+
+pub some-reply : (command : ℕ) → (rowAt (placeOf command) .«reply_length» ≡ 0 → ⊥) → hasReply command ≡ true
+unfolding hasReply
+some-reply command n = lt-ltb 0 (rowAt (placeOf command) .«reply_length») (omega arith)
+
+-- without a reply nothing is written
+pub unreplied-size : (command : ℕ) (d room : List ℕ) → hasReply command ≡ false → replySize command d room ≡ 0
+unfolding replySize
+unreplied-size command d room e = rw e
+
+pub unreplied-room : (command : ℕ) (d room : List ℕ) → hasReply command ≡ false → replyRoom command d room ≡ room
+unfolding replyRoom
+unreplied-room command d room e = rw e
+
+-- the room of a call is wide enough for every reply
+module _ (command : ℕ) (d room : List ℕ) (e : hasReply command ≡ true) where
+  pub replied-size : replySize command d room ≡ writtenSize (replyFrame command d) room
+  unfolding replySize
+  replied-size = rw e
+
+  pub replied-room : replyRoom command d room ≡ writtenRoom (replyFrame command d) room
+  unfolding replyRoom
+  replied-room = rw e
+
+  module _ (size : length d ≡ maxReply) (wide : 33 ≤ length room) where
+    payload-size : length (replyFrame command d .payload) ≡ rowAt (placeOf command) .«reply_length»
+    unfolding replyFrame
+    payload-size = length-take-le (rowAt (placeOf command) .«reply_length») d (omega (arith, reply-short (placeOf command)))
+
+    reply-writable : writable (replyFrame command d) room ≡ true
+    reply-writable =
+        let k = reply-short (placeOf command) in
+        writable-fits (replyFrame command d) room (omega (arith, payload-size)) (omega (arith, payload-size))
+
+    -- 7 + L, L being the table's
+    pub reply-size : replySize command d room ≡ frameSize (rowAt (placeOf command) .«reply_length»)
+    reply-size = replied-size ∙ size-written (replyFrame command d) room reply-writable ∙ ap frameSize payload-size
+
+    -- the reply stands at the front of the room, and the rest of the room stays
+    pub reply-room : replyRoom command d room ≡ encode (replyFrame command d) ++ drop (replySize command d room) room
+    reply-room =
+        replied-room
+        ∙ room-written (replyFrame command d) room reply-writable
+        ∙ ap (λ (n : ℕ). encode (replyFrame command d) ++ drop n room) (sym (replied-size ∙ size-written (replyFrame command d) room reply-writable))
+
+    -- and reads back as the whole frame of that command, version and data
+    pub reply-whole : wholeAt (replyRoom command d room) ≡ true
+    reply-whole = ap wholeAt replied-room ∙ whole-written (replyFrame command d) room reply-writable
+
+    pub reply-reads-back : frameAt (replyRoom command d room) ≡ replyFrame command d
+    reply-reads-back = ap frameAt replied-room ∙ frame-written (replyFrame command d) room reply-writable

@@ -1,0 +1,19 @@
+-- `commands::table::row_at` meets its contract: the constant is the table of specs/. Assumes nothing.
+use borrow.Author.Needs.{needs}
+use mathlib.Core.Path.{refl}
+use Rattle.commands.specs.Table.{table, rowAt}
+use Rattle.commands.proofs.table.row_at.Statement.{statement}
+use Rattle.commands.proofs.table.row_at.Tie as tie
+
+mul-result : tie.Need-mul-result
+mul-result c = search needs
+
+array-copy-out-result : tie.Need-array-copy-out-result
+array-copy-out-result c = search needs
+
+returns : tie.Need-returns
+unfolding rowAt table
+returns c = refl
+
+pub row-at-spec : {M : Type 1} → statement M
+row-at-spec = tie.close (tie.spec mul-result array-copy-out-result returns)

@@ -1,0 +1,30 @@
+-- `commands::table::row_of` meets its contract. Assumes nothing.
+use borrow.Author.Needs.{needs}
+use mathlib.Core.Path.{_≡_, sym, ap, _∙_}
+use Prim.Native.Nat.{ℕ}
+use native.Mathlib.Omega.{arith}
+use Rattle.commands.specs.declared.table.Row.{Row}
+use Rattle.commands.specs.Table.{table, placeOf, rowAt}
+use Rattle.commands.proofs.Rows.{reply-short}
+use Rattle.commands.proofs.table.row_of.Statement.{statement}
+use Rattle.commands.proofs.table.row_of.Tie as tie
+
+place-of-requires : tie.Need-place-of-requires
+place-of-requires c κs = search needs
+
+row-at-requires : tie.Need-row-at-requires
+row-at-requires c κs = search needs
+
+returns : tie.Need-returns
+returns c =
+    let n = ap (λ (r : Row). r .«reply_length») (c .row-at .ensures) in
+    record { is = c .row-at .ensures ∙ ap rowAt (c .before .before .place-of .ensures .0); fits = omega (arith, reply-short (c .before .before .place-of .result)) }
+
+returns-2 : tie.Need-returns-2
+unfolding rowAt table
+returns-2 c =
+    let e : placeOf (c .before .before .args .command) ≡ 6 = omega arith in
+    record { is = sym (ap rowAt e); fits = omega arith }
+
+pub row-of-spec : {M : Type 1} → statement M
+row-of-spec = tie.close (tie.spec place-of-requires row-at-requires returns returns-2)

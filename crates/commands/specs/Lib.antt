@@ -1,0 +1,5 @@
+-- The definitions that the contracts of `commands` cite, in the order of 01, "The six commands".
+pub mod Search
+pub mod Table
+pub mod Requests
+pub mod Replies

@@ -1,0 +1,10 @@
+// The six commands of the firmware service, as formats: no state.
+//
+// - `table`: ONE constant with the version byte and the data length of each command in both directions, and what it says of a header.
+// - `request`: the fields of what the module sends.
+// - `reply`: the data of what the controller answers, and its writing as a frame; version and length come from the table.
+//
+// Nothing above this crate knows where in a frame's data a field stands.
+pub mod reply;
+pub mod request;
+pub mod table;

@@ -1,0 +1,269 @@
+-- A lawful session answers into a lawful one of the same list and opened length, and the area keeps its length. Assumes nothing.
+use mathlib.Core.Path.{_≡_, refl, sym, ap, _∙_, subst}
+use mathlib.Core.Bool.{Bool, true, false, cond, not, _||_, _&&_, and-eq-true-iff}
+use mathlib.Core.List.{List}
+use Prim.Native.Nat.{ℕ, _+_, _<_, _≤_}
+use native.Mathlib.Omega.{arith}
+use borrow.Author.Tests.{ltb-true, ltb-false, eqb-true, eqb-false, not-false}
+use lib.Dec.{ltb, eqb}
+use lib.ListN.{length, getD, take}
+use Rattle.frames.specs.Frame.{Bytes}
+use Rattle.frames.proofs.Bytes.{bytes-at}
+use Rattle.frames.specs.declared.finished.FinishedFrame.{FinishedFrame}
+use Rattle.commands.specs.declared.request.RequestFA.{RequestFA}
+use Rattle.commands.specs.declared.request.RequestFB.{RequestFB}
+use Rattle.commands.specs.declared.request.RequestFC.{RequestFC}
+use Rattle.commands.specs.declared.request.RequestFD.{RequestFD}
+use Rattle.commands.specs.declared.table.Header.{Header}
+use Rattle.commands.specs.declared.table.Header.the-variants.{Unlisted, Wrong, Right}
+use Rattle.commands.specs.Requests.{channelOf, requestFA, requestFB, requestFC, requestFD, packetOf}
+use Rattle.commands.specs.Replies.{maxPacket}
+use Rattle.transfer.specs.declared.phase.Phase.{Phase}
+use Rattle.transfer.specs.declared.phase.Phase.the-variants.{Idle, Asked, Told, Receiving, Done}
+use Rattle.transfer.specs.declared.board.Board.{Board}
+use Rattle.transfer.specs.declared.state.Transfer.{Transfer}
+use Rattle.transfer.specs.declared.state.Step.{Step}
+use Rattle.transfer.specs.Phases.{idle, hasImage, toldOrReceiving, receivingOrDone}
+use Rattle.transfer.specs.Identities.{same, newer, identityOf, sameIdentity}
+use Rattle.transfer.specs.Transfers.{maxNext, withPhase, otherChannel}
+use Rattle.transfer.specs.FA.{minPacket, refusedFA, agreedSize, answerFA}
+use Rattle.transfer.specs.FB.{stateFB, afterFB, grantFB, answerFB}
+use Rattle.transfer.specs.FC.{answerFC}
+use Rattle.transfer.specs.FD.{notReceivingHere, stateFD, answerFD, areaFD, writtenAt}
+use Rattle.transfer.specs.FE.{rightCrc, answerFE}
+use Rattle.transfer.proofs.Choices.{no-refusal, neither, of-both, of-each}
+use Rattle.transfer.proofs.Packets.{taken-fits, taken-next, written-size}
+use Rattle.session.specs.declared.session.Session.{Session}
+use Rattle.session.specs.declared.answer.Answer.{Answer}
+use Rattle.session.specs.Boards.{pastBoard, placeOf}
+use Rattle.session.specs.Lawful.{unlawful, Lawful}
+use Rattle.session.specs.Answering.{unchanged, placeFor, stepOf, areaOf, routed, routedArea, byHeader, headerOfFrame, judged, judgedArea, answered, areaAfter}
+use Rattle.session.proofs.Lawfuls.{lawful, lawful-accepted}
+
+false-true : {A : Type 0} → false ≡ true → A
+false-true e = let z : _≡_ {A = ℕ} 0 1 = cc in absurd (omega arith)
+
+image-busy : (p : Phase) → hasImage p ≡ true → idle p ≡ false
+image-busy Idle e = false-true e
+image-busy Asked e = refl
+image-busy Told e = refl
+image-busy Receiving e = refl
+image-busy Done e = refl
+
+started-image : (p : Phase) → toldOrReceiving p ≡ true → hasImage p ≡ true
+started-image Idle e = e
+started-image Asked e = e
+started-image Told e = refl
+started-image Receiving e = refl
+started-image Done e = refl
+
+ending-image : (p : Phase) → receivingOrDone p ≡ true → hasImage p ≡ true
+ending-image Idle e = e
+ending-image Asked e = e
+ending-image Told e = refl
+ending-image Receiving e = refl
+ending-image Done e = refl
+
+-- a session with another transfer
+abbrev pub withTransfer : Session → Transfer → Session
+withTransfer s t = record { boards = s .boards; count = s .count; opened = s .opened; transfer = t }
+
+positive : (n : ℕ) → (n ≡ 0 → ⊥) → 0 < n
+positive n h = omega arith
+
+module _ (s : Session) (k : Lawful s) where
+  abbrev t : Transfer
+  t = s .transfer
+
+  abbrev Kept : Step → Type 0
+  Kept x = Lawful (withTransfer s (x .transfer))
+
+  -- idle, with lengths and number in order: nothing else is asked
+  idle-kept : (u : Transfer) → u .phase ≡ Idle → u .stored ≤ u .image .announced → u .image .announced ≤ s .opened → u .next ≤ maxNext → Lawful (withTransfer s u)
+  idle-kept u e stored announced number =
+      let busy : idle (u .phase) ≡ false → ⊥ = λ f. false-true (sym f ∙ ap idle e) in
+      let bare : hasImage (u .phase) ≡ true → ⊥ = λ f. false-true (sym (ap hasImage e) ∙ f) in
+      record {
+        list = k .list;
+        some-area = k .some-area;
+        small-area = k .small-area;
+        stored = stored;
+        announced = announced;
+        number = number;
+        listed = λ f. absurd (busy f);
+        least-size = λ f. absurd (busy f);
+        most-size = λ f. absurd (busy f);
+        some-image = λ f. absurd (bare f);
+      }
+
+  -- the same session's channel and agreed size, in whatever phase
+  busy-kept : (u : Transfer) → idle (t .phase) ≡ false → u .channel ≡ t .channel → u .agreed ≡ t .agreed → u .stored ≤ u .image .announced → u .image .announced ≤ s .opened
+      → u .next ≤ maxNext → (hasImage (u .phase) ≡ true → 0 < u .image .announced) → Lawful (withTransfer s u)
+  busy-kept u i ch size stored announced number image =
+      record {
+        list = k .list;
+        some-area = k .some-area;
+        small-area = k .small-area;
+        stored = stored;
+        announced = announced;
+        number = number;
+        listed = λ f. subst (λ (c : ℕ). placeOf (s .boards) (s .count) c < s .count) (sym ch) (k .listed i);
+        least-size = λ f. subst (λ (n : ℕ). minPacket ≤ n) (sym size) (k .least-size i);
+        most-size = λ f. subst (λ (n : ℕ). n ≤ maxPacket) (sym size) (k .most-size i);
+        some-image = image;
+      }
+
+  agreed-fits : (n : ℕ) → minPacket ≤ n → (minPacket ≤ agreedSize n) × (agreedSize n ≤ maxPacket)
+  agreed-fits n h = of-each (λ (m : ℕ). (minPacket ≤ m) × (m ≤ maxPacket)) (ltb n maxPacket) n maxPacket (λ e. let g = ltb-true n maxPacket e in (h, omega arith)) (λ e. (omega arith, omega arith))
+
+  fa-kept : (b : Board) (r : RequestFA) → placeOf (s .boards) (s .count) (r .channel) < s .count → Kept (answerFA t b r)
+  unfolding answerFA
+  fa-kept b r here =
+      of-each Kept (refusedFA b r) _ _ (λ e. k)
+      (λ e.
+      let size = agreed-fits (r .len1) (ltb-false _ _ (neither (not (b .permit)) _ e .1)) in
+      record {
+        list = k .list;
+        some-area = k .some-area;
+        small-area = k .small-area;
+        stored = k .stored;
+        announced = k .announced;
+        number = k .number;
+        listed = λ f. here;
+        least-size = λ f. size .0;
+        most-size = λ f. size .1;
+        some-image = λ f. false-true f;
+      })
+
+  -- a state 00 of FB
+  granted-length : (b : Board) (r : RequestFB) (n : ℕ) → stateFB b r n ≡ 0 → (0 < r .length) × (r .length ≤ n)
+  unfolding stateFB
+  granted-length b r n e =
+      let e1 = no-refusal (not (same (r .pid) (b .pid))) 1 _ (omega arith) e .1 in
+      let e2 = no-refusal (not (newer (r .version) (b .soft))) 2 _ (omega arith) e1 .1 in
+      let e3 = no-refusal (eqb (r .length) 0 || ltb n (r .length)) 3 0 (omega arith) e2 .0 in
+      let e4 = neither (eqb (r .length) 0) _ e3 in
+      (positive (r .length) (eqb-false _ _ (e4 .0)), ltb-false _ _ (e4 .1))
+
+  -- the same identity announces the same length
+  same-announced : (r : RequestFB) → sameIdentity (identityOf r) (t .image) ≡ true → r .length ≡ t .image .announced
+  unfolding sameIdentity
+  same-announced r e =
+      let e1 = and-eq-true-iff (eqb (r .channel) (t .image .channel)) _ .0 e .1 in
+      eqb-true _ _ (and-eq-true-iff (eqb (r .length) (t .image .announced)) _ .0 e1 .0)
+
+  fb-kept : (b : Board) (r : RequestFB) (area : List ℕ) → length area ≡ s .opened → Kept (answerFB t b r area)
+  unfolding answerFB grantFB afterFB
+  fb-kept b r area size =
+      of-each Kept (idle (t .phase) || otherChannel t (r .channel)) _ _ (λ e. k)
+      (λ e.
+      let i = neither (idle (t .phase)) _ e .0 in
+      of-each Kept (eqb (stateFB b r (length area)) 0) _ _
+      (λ z.
+      let g = granted-length b r (length area) (eqb-true _ _ z) in
+      of-each (λ (u : Transfer). Lawful (withTransfer s u)) (sameIdentity (identityOf r) (t .image)) _ _
+      (λ w. let n = same-announced r w in busy-kept (withPhase t Told) i refl refl (k .stored) (k .announced) (k .number) (λ f. omega arith))
+      (λ w. busy-kept _ i refl refl (omega arith) (omega arith) (k .number) (λ f. g .0)))
+      (λ z. idle-kept (withPhase t Idle) refl (k .stored) (k .announced) (k .number)))
+
+  fc-kept : (r : RequestFC) → Kept (answerFC t r)
+  unfolding answerFC
+  fc-kept r =
+      of-each Kept (not (toldOrReceiving (t .phase)) || otherChannel t (r .channel)) _ _ (λ e. k)
+      (λ e.
+      let h = started-image (t .phase) (not-false _ (neither (not (toldOrReceiving (t .phase))) _ e .0)) in
+      let start = of-both (λ (n : ℕ). n ≤ t .image .announced) (eqb (r .offset) (t .stored)) (t .stored) 0 (k .stored) (omega arith) in
+      busy-kept _ (image-busy (t .phase) h) refl refl start (k .announced) (omega arith) (λ f. k .some-image h))
+
+  -- a packet's number has two bytes, so that the next one is at most 65,536
+  fd-kept : (r : RequestFD) (p : List ℕ) → r .number < maxNext → Kept (answerFD t r p)
+  unfolding answerFD
+  fd-kept r p small =
+      of-each Kept (eqb (stateFD t r p) 0) _ _
+      (λ z.
+      let e = eqb-true (stateFD t r p) 0 z in
+      let number = taken-next t r p e in
+      record {
+        list = k .list;
+        some-area = k .some-area;
+        small-area = k .small-area;
+        stored = taken-fits t r p e;
+        announced = k .announced;
+        number = omega arith;
+        listed = k .listed;
+        least-size = k .least-size;
+        most-size = k .most-size;
+        some-image = k .some-image;
+      })
+      (λ z. k)
+
+  fe-kept : (channel : ℕ) (area : List ℕ) → Kept (answerFE t channel area)
+  unfolding answerFE
+  fe-kept channel area =
+      of-each Kept (not (receivingOrDone (t .phase)) || otherChannel t channel) _ _ (λ e. k)
+      (λ e.
+      let h = ending-image (t .phase) (not-false _ (neither (not (receivingOrDone (t .phase))) _ e .0)) in
+      of-both Kept (not (eqb (t .stored) (t .image .announced))) _ _ k
+      (of-both Kept (rightCrc t area) _ _
+      (busy-kept (withPhase t Done) (image-busy (t .phase) h) refl refl (k .stored) (k .announced) (k .number) (λ f. k .some-image h))
+      (idle-kept _ refl (omega arith) (omega arith) (k .number))))
+
+  step-kept : (f : FinishedFrame) (b : Board) (area : List ℕ) → length area ≡ s .opened → Bytes (f .bytes) → placeFor s f < s .count → Kept (stepOf t f b area)
+  unfolding stepOf requestFA requestFD
+  step-kept f b area size bytes here =
+      let hi = bytes-at (f .bytes) 1 bytes in
+      let lo = bytes-at (f .bytes) 2 bytes in
+      of-both Kept (eqb (f .command) 0xFA) _ _ (fa-kept b (requestFA (f .bytes)) here)
+      (of-both Kept (eqb (f .command) 0xFB) _ _ (fb-kept b (requestFB (f .bytes)) area size)
+      (of-both Kept (eqb (f .command) 0xFC) _ _ (fc-kept (requestFC (f .bytes)))
+      (of-both Kept (eqb (f .command) 0xFD) _ _ (fd-kept (requestFD (f .bytes)) (packetOf (f .length) (f .bytes)) (omega arith)) (fe-kept (channelOf (f .bytes)) area))))
+
+-- what every answer keeps
+pub record Keeps (s : Session) (a : Answer) : Type 0 where
+  pub accepted : unlawful (a .session) ≡ false
+  pub same-list : a .session .boards ≡ s .boards
+  pub same-count : a .session .count ≡ s .count
+  pub same-area : a .session .opened ≡ s .opened
+
+header-of-both : {A : Type 0} (P : A → Type 0) (h : Header) (a b c : A) → P a → P b → P c → P (byHeader h a b c)
+header-of-both P Unlisted a b c p q r = p
+header-of-both P Wrong a b c p q r = q
+header-of-both P Right a b c p q r = r
+
+pub answer-keeps : (s : Session) (f : FinishedFrame) (area : List ℕ) → unlawful s ≡ false → Bytes (f .bytes) → Keeps s (answered s f area)
+unfolding answered judged routed
+answer-keeps s f area e bytes =
+    let same : (n : ℕ) → Keeps s (unchanged n s) = λ n. record { accepted = e; same-list = refl; same-count = refl; same-area = refl } in
+    of-each (Keeps s) (unlawful s) _ _ (λ _. same 9)
+    (λ _. of-each (Keeps s) (not (eqb (length area) (s .opened))) _ _ (λ _. same 6)
+    (λ z.
+    let size = eqb-true (length area) (s .opened) (not-false _ z) in
+    header-of-both (Keeps s) (headerOfFrame f) _ _ _ (same 2) (same 3)
+    (of-both (Keeps s) (eqb (f .command) 0xF9) _ _ (same 0)
+    (of-each (Keeps s) (ltb (placeFor s f) (s .count)) _ _
+    (λ here.
+    let next = step-kept s (lawful s e) f (getD (s .boards) (placeFor s f) pastBoard) area size bytes (ltb-true _ _ here) in
+    record { accepted = lawful-accepted _ next; same-list = refl; same-count = refl; same-area = refl })
+    (λ _. same 4)))))
+
+-- the area keeps its length
+pub area-size : (s : Session) (f : FinishedFrame) (area : List ℕ) → length (areaAfter s f area) ≡ length area
+unfolding areaAfter judgedArea routedArea areaOf areaFD
+area-size s f area =
+    let Same : List ℕ → Type 0 = λ a. length a ≡ length area in
+    of-each Same (unlawful s) _ _ (λ _. refl)
+    (λ e. of-each Same (not (eqb (length area) (s .opened))) _ _ (λ _. refl)
+    (λ z.
+    let size = eqb-true (length area) (s .opened) (not-false _ z) in
+    let fits = lawful s e .announced in
+    let r = requestFD (f .bytes) in
+    let p = packetOf (f .length) (f .bytes) in
+    header-of-both Same (headerOfFrame f) _ _ _ refl refl
+    (of-both Same (eqb (f .command) 0xF9) _ _ refl
+    (of-both Same (ltb (placeFor s f) (s .count)) _ _
+    (of-both Same (eqb (f .command) 0xFD) _ _
+    (of-each Same (eqb (stateFD (s .transfer) r p) 0) _ _
+    (λ taken. written-size area p (s .transfer .stored) (omega (arith, taken-fits (s .transfer) r p (eqb-true _ _ taken))))
+    (λ _. refl))
+    refl)
+    refl))))

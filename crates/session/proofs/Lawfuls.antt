@@ -1,0 +1,128 @@
+-- Outcome 9's sentence as a test and as propositions: they say the same. Assumes nothing.
+use mathlib.Core.Path.{_≡_, refl, ap, ap₂, _∙_}
+use mathlib.Core.Bool.{Bool, true, false, cond, not, _||_}
+use mathlib.Core.List.{List}
+use Prim.Native.Nat.{ℕ, _≤_, _<_}
+use native.Mathlib.Omega.{arith}
+use borrow.Author.Tests.{ltb-true, ltb-false, lt-ltb, le-ltb, eqb-false, ne-eqb, not-false}
+use lib.Dec.{ltb, eqb}
+use Rattle.commands.specs.Replies.{maxPacket}
+use Rattle.transfer.specs.declared.board.Board.{Board}
+use Rattle.transfer.specs.declared.phase.Phase.{Phase}
+use Rattle.transfer.specs.declared.phase.Phase.the-variants.{Idle, Asked, Told, Receiving, Done}
+use Rattle.transfer.specs.declared.state.Transfer.{Transfer}
+use Rattle.transfer.specs.Phases.{idle, hasImage}
+use Rattle.transfer.specs.Transfers.{maxNext, Sound}
+use Rattle.transfer.specs.FA.{minPacket}
+use Rattle.transfer.proofs.Choices.{neither}
+use Rattle.session.specs.declared.session.Session.{Session}
+use Rattle.session.specs.Boards.{maxBoards, placeOf, badList}
+use Rattle.session.specs.Opening.{maxArea, badArea}
+use Rattle.session.specs.Lawful.{badLengths, badSize, badSessionFields, unlawful, Lawful}
+
+pub list-fits : (bs : List Board) (n : ℕ) → badList bs n ≡ false → n ≤ maxBoards
+unfolding badList
+list-fits bs n e =
+    let e1 = neither (ltb n 1) _ e in
+    let e2 = neither (ltb maxBoards n) _ (e1 .1) in
+    ltb-false maxBoards n (e2 .0)
+
+-- a phase with an image is not idle
+image-not-idle : (p : Phase) → hasImage p ≡ true → idle p ≡ false
+image-not-idle Idle e = let z : _≡_ {A = ℕ} 0 1 = cc in absurd (omega arith)
+image-not-idle Asked e = refl
+image-not-idle Told e = refl
+image-not-idle Receiving e = refl
+image-not-idle Done e = refl
+
+unless : (a b : Bool) → cond a false b ≡ false → a ≡ false → b ≡ false
+unless true b e h = let z : _≡_ {A = ℕ} 0 1 = cc in absurd (omega arith)
+unless false b e h = e
+
+if-then : (a b : Bool) → cond a b false ≡ false → a ≡ true → b ≡ false
+if-then true b e h = e
+if-then false b e h = let z : _≡_ {A = ℕ} 0 1 = cc in absurd (omega arith)
+
+-- what the fields of a session that is not idle are
+record Fields (t : Transfer) (bs : List Board) (n : ℕ) : Type 0 where
+  listed : placeOf bs n (t .channel) < n
+  least : minPacket ≤ t .agreed
+  most : t .agreed ≤ maxPacket
+  image : hasImage (t .phase) ≡ true → 0 < t .image .announced
+
+fields : (t : Transfer) (bs : List Board) (n : ℕ) → badSessionFields t bs n ≡ false → idle (t .phase) ≡ false → Fields t bs n
+fields t bs n e h =
+    let f = unless (idle (t .phase)) _ e h in
+    let f1 = neither (not (ltb (placeOf bs n (t .channel)) n)) _ f in
+    let f2 = neither (badSize (t .agreed)) _ (f1 .1) in
+    let f3 = neither (ltb (t .agreed) minPacket) _ (f2 .0) in
+    record {
+      listed = ltb-true _ _ (not-false _ (f1 .0));
+      least = ltb-false _ _ (f3 .0);
+      most = ltb-false _ _ (f3 .1);
+      image = λ k. positive (t .image .announced) (eqb-false _ _ (if-then (hasImage (t .phase)) _ (f2 .1) k));
+    }
+  where
+    positive : (m : ℕ) → (m ≡ 0 → ⊥) → 0 < m
+    positive m n = omega arith
+
+pub lawful : (s : Session) → unlawful s ≡ false → Lawful s
+unfolding unlawful
+lawful s e =
+    let t = s .transfer in
+    let e1 = neither (badList (s .boards) (s .count)) _ e in
+    let e2 = neither (badArea (s .opened)) _ (e1 .1) in
+    let e3 = neither (badLengths t (s .opened)) _ (e2 .1) in
+    let a1 = neither (ltb (s .opened) 1) _ (e2 .0) in
+    let l1 = neither (ltb (t .image .announced) (t .stored)) _ (e3 .0) in
+    let l2 = neither (ltb (s .opened) (t .image .announced)) _ (l1 .1) in
+    record {
+      list = e1 .0;
+      some-area = ltb-false (s .opened) 1 (a1 .0);
+      small-area = ltb-false maxArea (s .opened) (a1 .1);
+      stored = ltb-false _ _ (l1 .0);
+      announced = ltb-false _ _ (l2 .0);
+      number = ltb-false _ _ (l2 .1);
+      listed = λ h. fields t (s .boards) (s .count) (e3 .1) h .listed;
+      least-size = λ h. fields t (s .boards) (s .count) (e3 .1) h .least;
+      most-size = λ h. fields t (s .boards) (s .count) (e3 .1) h .most;
+      some-image = λ k. fields t (s .boards) (s .count) (e3 .1) (image-not-idle (t .phase) k) .image k;
+    }
+
+both-false : (a b : Bool) → a ≡ false → b ≡ false → (a || b) ≡ false
+both-false a b p q = ap₂ _||_ p q
+
+cond-false : (a b : Bool) → (a ≡ true → b ≡ false) → cond a b false ≡ false
+cond-false true b h = h refl
+cond-false false b h = refl
+
+cond-unless : (a b : Bool) → (a ≡ false → b ≡ false) → cond a false b ≡ false
+cond-unless true b h = refl
+cond-unless false b h = h refl
+
+pub lawful-accepted : (s : Session) → Lawful s → unlawful s ≡ false
+unfolding unlawful
+lawful-accepted s l =
+    let t = s .transfer in
+    both-false (badList (s .boards) (s .count)) _ (l .list)
+    (both-false (badArea (s .opened)) _ (both-false (ltb (s .opened) 1) _ (le-ltb _ _ (l .some-area)) (le-ltb _ _ (l .small-area)))
+    (both-false (badLengths t (s .opened)) _
+    (both-false (ltb (t .image .announced) (t .stored)) _ (le-ltb _ _ (l .stored))
+    (both-false (ltb (s .opened) (t .image .announced)) _ (le-ltb _ _ (l .announced)) (le-ltb _ _ (l .number))))
+    (cond-unless (idle (t .phase)) _ (λ h.
+    both-false (not (ltb (placeOf (s .boards) (s .count) (t .channel)) (s .count))) _ (ap not (lt-ltb _ _ (l .listed h)))
+    (both-false (badSize (t .agreed)) _ (both-false (ltb (t .agreed) minPacket) _ (le-ltb _ _ (l .least-size h)) (le-ltb _ _ (l .most-size h)))
+    (cond-false (hasImage (t .phase)) _ (λ k. ne-eqb _ _ (nonzero (t .image .announced) (l .some-image k)))))))))
+  where
+    nonzero : (n : ℕ) → 0 < n → n ≡ 0 → ⊥
+    nonzero n h e = omega arith
+
+-- what the transfer's methods ask for
+pub lawful-sound : (s : Session) (n : ℕ) → unlawful s ≡ false → n ≡ s .opened → Sound (s .transfer) n
+lawful-sound s n e size =
+    let l = lawful s e in
+    let fits = l .announced in
+    record { stored-fits = l .stored; image-fits = omega arith; number-fits = l .number }
+
+pub lawful-count : (s : Session) → unlawful s ≡ false → s .count ≤ maxBoards
+lawful-count s e = list-fits (s .boards) (s .count) (lawful s e .list)

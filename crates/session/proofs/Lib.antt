@@ -1,0 +1,8 @@
+-- The laws that belong to no one function, by subject.
+mod Lists
+pub mod Reports
+pub mod Lawfuls
+pub mod Kept
+pub mod EndRequests
+pub mod Unanswered
+pub mod Openings

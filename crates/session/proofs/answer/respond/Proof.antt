@@ -1,0 +1,119 @@
+-- `session::answer::respond` meets its contract. Assumes nothing.
+use borrow.Author.Needs.{needs}
+use mathlib.Core.Path.{ap₂, _∙_}
+use mathlib.Core.List.{List}
+use Prim.Native.Nat.{ℕ}
+use borrow.Author.Tests.{eq-eqb, ne-eqb}
+use Rattle.commands.specs.declared.request.RequestFD.{RequestFD}
+use Rattle.transfer.specs.FD.{areaFD}
+use Rattle.session.specs.Answering.{stepOf, areaOf}
+use Rattle.session.proofs.answer.respond.Statement.{statement}
+use Rattle.session.proofs.answer.respond.Tie as tie
+
+fa-requires : tie.Need-fa-requires
+fa-requires c κs = search needs
+
+fa-requires-2 : tie.Need-fa-requires-2
+fa-requires-2 c κs = search needs
+
+returns : tie.Need-returns
+unfolding stepOf areaOf
+returns c =
+    let is = c .before .before .before .if1 .taken in
+    (simp (is, c .before .fa .ensures, c .fa2 .ensures), simp is)
+
+fb-requires : tie.Need-fb-requires
+fb-requires c κs = search needs
+
+fb-requires-2 : tie.Need-fb-requires-2
+fb-requires-2 c κs = search needs
+
+same-length : tie.Need-same-length
+same-length c = search needs
+
+returns-2 : tie.Need-returns-2
+unfolding stepOf areaOf
+returns-2 c =
+    let is = c .before .before .before .before .if2 .taken in
+    (simp (is, c .before .before .fb .ensures, c .fb2 .ensures), simp is)
+
+fc-requires : tie.Need-fc-requires
+fc-requires c κs = search needs
+
+fc-requires-2 : tie.Need-fc-requires-2
+fc-requires-2 c κs = search needs
+
+returns-3 : tie.Need-returns-3
+unfolding stepOf areaOf
+returns-3 c =
+    let is = c .before .before .before .if3 .taken in
+    (simp (is, c .before .fc .ensures, c .fc2 .ensures), simp is)
+
+fd-requires : tie.Need-fd-requires
+fd-requires c κs = search needs
+
+packet-requires : tie.Need-packet-requires
+packet-requires c κs = search needs
+
+fd-requires-2 : tie.Need-fd-requires-2
+fd-requires-2 c κs = search needs
+
+same-length-2 : tie.Need-same-length-2
+same-length-2 c = search needs
+
+returns-4 : tie.Need-returns-4
+unfolding stepOf areaOf
+returns-4 c =
+    let is = c .before .before .before .before .before .before .before .before .if4 .taken in
+    let a = c .before .before .before .before .before .before .before .before .before .before .before .before .before .before .args in
+    let fields = c .before .before .before .before .before .before .fd .ensures in
+    let packet = c .before .before .before .before .packet .ensures in
+    (simp (is, fields, packet, c .before .before .fd2 .ensures .0), rw (eq-eqb _ _ is) (c .before .before .fd2 .ensures .1 ∙ ap₂ (λ (r : RequestFD) (p : List ℕ). areaFD (a .t) r p (a .area .now)) fields packet))
+
+channel-requires : tie.Need-channel-requires
+channel-requires c κs = search needs
+
+fe-requires : tie.Need-fe-requires
+fe-requires c κs = search needs
+
+same-length-3 : tie.Need-same-length-3
+same-length-3 c = search needs
+
+returns-5 : tie.Need-returns-5
+unfolding stepOf areaOf
+returns-5 c =
+    let not-fd = ne-eqb _ _ (c .before .before .before .before .if4 .left) in (
+      simp (
+        ne-eqb _ _ (c .before .before .before .before .before .before .before .if1 .left),
+        ne-eqb _ _ (c .before .before .before .before .before .before .if2 .left),
+        ne-eqb _ _ (c .before .before .before .before .before .if3 .left),
+        not-fd,
+        c .before .before .channel .ensures,
+        c .fe .ensures,
+      ),
+      simp not-fd,
+    )
+
+pub respond-spec : {M : Type 1} → statement M
+respond-spec =
+    tie.close
+    (tie.spec
+    fa-requires
+    fa-requires-2
+    returns
+    fb-requires
+    fb-requires-2
+    same-length
+    returns-2
+    fc-requires
+    fc-requires-2
+    returns-3
+    fd-requires
+    packet-requires
+    fd-requires-2
+    same-length-2
+    returns-4
+    channel-requires
+    fe-requires
+    same-length-3
+    returns-5)

@@ -1,0 +1,72 @@
+-- `session::list::list_of` meets its contract. The loop's invariant: the unused places are zero up to place i. Assumes nothing.
+use borrow.Author.Needs.{needs}
+use mathlib.Core.Path.{_≡_, ap, _∙_}
+use mathlib.Core.List.{List}
+use Prim.Native.Nat.{_≤_, _-_}
+use native.Mathlib.Omega.{arith}
+use lib.ListN.{length, set, take, replicate}
+use mathlib.Core.List.{_++_}
+use Rattle.transfer.specs.declared.board.Board.{Board}
+use Rattle.session.specs.Boards.{listOf}
+use Rattle.session.proofs.Lists.{filled, filled-none, filled-next, filled-all}
+use Rattle.session.proofs.list.list_of.Statement.{statement}
+use Rattle.session.proofs.list.list_of.Tie as tie
+
+abbrev Inv-loop : tie.InvT-loop
+Inv-loop count list₀ none i₀ list i = (count ≤ i) × ((i ≤ 10) × (list ≡ filled list₀ none count i))
+
+abbrev μ-loop : tie.MeasureT-loop
+μ-loop count list₀ none i₀ list i = 10 - i
+
+no-board-requires : tie.Need-no-board-requires Inv-loop μ-loop
+no-board-requires c κs = search needs
+
+loop-holds : tie.Need-loop-holds Inv-loop μ-loop
+loop-holds c = (search needs, (search needs, filled-none (c .before .args .boards) (c .no-board .result) (c .before .args .count)))
+
+mul-list : tie.Need-mul-list Inv-loop μ-loop
+mul-list c = search needs
+
+array-set-from-list : tie.Need-array-set-from-list Inv-loop μ-loop
+array-set-from-list c = search needs
+
+add-i : tie.Need-add-i Inv-loop μ-loop
+add-i c = search needs
+
+loop-less : tie.Need-loop-less Inv-loop μ-loop
+loop-less c = search needs
+
+loop-again : tie.Need-loop-again Inv-loop μ-loop
+loop-again c =
+    let a = c .before .before .before .args in
+    let l = c .before .loop in
+    let z = c .before .before .no-board .result in
+    let size : length (a .boards) ≡ 10 = search needs in (
+      search needs,
+      (search needs, ap (λ (x : List Board). set x (l .i) z) (l .inv .1 .1) ∙ filled-next (a .boards) z (a .count) (l .i) (l .inv .0) (omega arith)),
+    )
+
+returns : tie.Need-returns Inv-loop μ-loop
+unfolding listOf
+returns c =
+    let a = c .before .before .before .args in
+    let l = c .before .loop in
+    let z = c .before .before .no-board .result in
+    let size : length (a .boards) ≡ 10 = search needs in
+    let e : l .i ≡ 10 = omega arith in
+    l .inv .1 .1 ∙ filled-all (a .boards) z (a .count) (l .i) (omega arith) ∙ simp (e, c .before .before .no-board .ensures)
+
+pub list-of-spec : {M : Type 1} → statement M
+list-of-spec =
+    tie.close
+    (tie.spec
+    Inv-loop
+    μ-loop
+    no-board-requires
+    loop-holds
+    mul-list
+    array-set-from-list
+    add-i
+    loop-less
+    loop-again
+    returns)

@@ -1,0 +1,64 @@
+-- `session::session::Session::judge` meets its contract. Assumes nothing.
+use borrow.Author.Needs.{needs}
+use mathlib.Core.Path.{sym, _∙_}
+use Rattle.session.specs.Answering.{judged, judgedArea}
+use Rattle.session.proofs.session.Session.judge.Statement.{statement}
+use Rattle.session.proofs.session.Session.judge.Tie as tie
+
+header-of-requires : tie.Need-header-of-requires
+header-of-requires c κs = search needs
+
+enum-told : tie.Need-enum-told
+enum-told c = search needs
+
+unchanged-requires : tie.Need-unchanged-requires
+unchanged-requires c κs = search needs
+
+enum-told-2 : tie.Need-enum-told-2
+enum-told-2 c = search needs
+
+unchanged-requires-2 : tie.Need-unchanged-requires-2
+unchanged-requires-2 c κs = search needs
+
+enum-told-3 : tie.Need-enum-told-3
+enum-told-3 c = search needs
+
+route-requires : tie.Need-route-requires
+route-requires c κs = search needs
+
+returns : tie.Need-returns
+unfolding judged judgedArea
+returns c =
+    let h = sym (c .before .before .before .header-of .ensures) ∙ c .before .enum-told .given .1 in
+    (rw h (c .unchanged .ensures), rw h)
+
+returns-2 : tie.Need-returns-2
+unfolding judged judgedArea
+returns-2 c =
+    let h = sym (c .before .before .before .header-of .ensures) ∙ c .before .enum-told2 .given .1 in
+    (rw h (c .unchanged2 .ensures), rw h)
+
+same-length : tie.Need-same-length
+same-length c = search needs
+
+returns-3 : tie.Need-returns-3
+unfolding judged judgedArea
+returns-3 c =
+    let h = sym (c .before .before .before .before .before .before .header-of .ensures) ∙ c .before .before .before .before .enum-told3 .given .1 in
+    (rw h (c .before .before .route .ensures .0), rw h (c .before .before .route .ensures .1))
+
+pub judge-spec : {M : Type 1} → statement M
+judge-spec =
+    tie.close
+    (tie.spec
+    header-of-requires
+    enum-told
+    unchanged-requires
+    enum-told-2
+    unchanged-requires-2
+    enum-told-3
+    route-requires
+    returns
+    returns-2
+    same-length
+    returns-3)

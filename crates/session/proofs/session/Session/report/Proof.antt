@@ -1,0 +1,75 @@
+-- `session::session::Session::report` meets its contract. Assumes nothing.
+use borrow.Author.Needs.{needs}
+use mathlib.Core.Path.{_≡_, sym, ap, _∙_}
+use mathlib.Core.List.{List}
+use Prim.Native.Nat.{ℕ, _+_, _*_, _≤_}
+use native.Mathlib.Omega.{arith}
+use borrow.Author.Tests.{lt-ltb}
+use lib.ListN.{length, take}
+use lib.Seq.{length-take-le}
+use Rattle.frames.specs.Frame.{Frame}
+use Rattle.frames.specs.Buffer.{writtenSize, writtenRoom}
+use Rattle.commands.specs.declared.table.Row.{Row}
+use Rattle.commands.proofs.Rows.{f9-version}
+use Rattle.session.specs.Report.{reportSize, reportRoom}
+use Rattle.session.proofs.Reports.{report-frame, size-listed, room-listed}
+use Rattle.session.proofs.session.Session.report.Statement.{statement}
+use Rattle.session.proofs.session.Session.report.Tie as tie
+
+returns : tie.Need-returns
+unfolding reportSize reportRoom
+returns c = let many = lt-ltb _ _ (c .if1 .taken) in record { gives = rw many; leaves = rw many }
+
+row-of-requires : tie.Need-row-of-requires
+row-of-requires c κs = search needs
+
+report-data-requires : tie.Need-report-data-requires
+report-data-requires c κs = search needs
+
+mul-n : tie.Need-mul-n
+mul-n c = search needs
+
+add-n : tie.Need-add-n
+add-n c = search needs
+
+array-share-prefix-d : tie.Need-array-share-prefix-d
+array-share-prefix-d c = search needs
+
+slice-aggregate-write : tie.Need-slice-aggregate-write
+slice-aggregate-write c = sym (length-take-le _ _ (omega arith))
+
+write-requires : tie.Need-write-requires
+write-requires c κs = search needs
+
+same-length : tie.Need-same-length
+same-length c = search needs
+
+returns-2 : tie.Need-returns-2
+returns-2 c =
+    let o = c .before .before .before .before .before .before .before .before .before .before in
+    let s = o .args .self in
+    let room = o .args .room .now in
+    let few = c .before .before .before .before .before .before .before .before .if1 .left in
+    let row = c .before .before .before .before .before .before .row-of in
+    let version = ap (λ (r : Row). r .version) (row .ensures .is) ∙ f9-version in
+    let f = report-frame s (row .result .version) (c .before .before .before .before .before .report-data .result) version (c .before .before .before .before .before .report-data .ensures) in
+    let w = c .before .before .write .ensures in
+    record {
+      gives = w .gives ∙ ap (λ (g : Frame). writtenSize g room) f ∙ sym (size-listed s room few);
+      leaves = w .leaves ∙ ap (λ (g : Frame). writtenRoom g room) f ∙ sym (room-listed s room few);
+    }
+
+pub report-spec : {M : Type 1} → statement M
+report-spec =
+    tie.close
+    (tie.spec
+    returns
+    row-of-requires
+    report-data-requires
+    mul-n
+    add-n
+    array-share-prefix-d
+    slice-aggregate-write
+    write-requires
+    same-length
+    returns-2)

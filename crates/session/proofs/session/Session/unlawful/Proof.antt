@@ -1,0 +1,48 @@
+-- `session::session::Session::unlawful` meets its contract. Assumes nothing.
+use borrow.Author.Needs.{needs}
+use mathlib.Core.Path.{sym, _∙_}
+use Rattle.session.specs.Lawful.{unlawful}
+use Rattle.session.proofs.Lawfuls.{list-fits}
+use Rattle.session.proofs.session.Session.unlawful.Statement.{statement}
+use Rattle.session.proofs.session.Session.unlawful.Tie as tie
+
+bad-list-requires : tie.Need-bad-list-requires
+bad-list-requires c κs = search needs
+
+returns : tie.Need-returns
+unfolding unlawful
+returns c = simp (← c .before .bad-list .ensures, c .if1 .taken)
+
+bad-area-requires : tie.Need-bad-area-requires
+bad-area-requires c κs = search needs
+
+returns-2 : tie.Need-returns-2
+unfolding unlawful
+returns-2 c = simp (← c .before .before .before .bad-list .ensures, c .before .before .if1 .left, ← c .before .bad-area .ensures, c .if2 .taken)
+
+bad-lengths-requires : tie.Need-bad-lengths-requires
+bad-lengths-requires c κs = search needs
+
+returns-3 : tie.Need-returns-3
+unfolding unlawful
+returns-3 c = simp (← c .before .before .before .before .before .bad-list .ensures, c .before .before .before .before .if1 .left, ← c .before .before .before .bad-area .ensures, c .before .before .if2 .left, ← c .before .bad-lengths .ensures, c .if3 .taken)
+
+bad-session-fields-requires : tie.Need-bad-session-fields-requires
+bad-session-fields-requires c κs = list-fits _ _ (sym (c .before .before .before .before .before .bad-list .ensures) ∙ c .before .before .before .before .if1 .left)
+
+returns-4 : tie.Need-returns-4
+unfolding unlawful
+returns-4 c = simp (← c .before .before .before .before .before .before .bad-list .ensures, c .before .before .before .before .before .if1 .left, ← c .before .before .before .before .bad-area .ensures, c .before .before .before .if2 .left, ← c .before .before .bad-lengths .ensures, c .before .if3 .left, ← c .bad-session-fields .ensures)
+
+pub unlawful-spec : {M : Type 1} → statement M
+unlawful-spec =
+    tie.close
+    (tie.spec
+    bad-list-requires
+    returns
+    bad-area-requires
+    returns-2
+    bad-lengths-requires
+    returns-3
+    bad-session-fields-requires
+    returns-4)

@@ -1,0 +1,90 @@
+-- 01, "How the session answers": "First version byte, L and channel are checked (outcomes 2, 3, 4 below, in that order)." Then the
+-- transfer's answer to the command. Assumes nothing.
+use mathlib.Core.Bool.{Bool, cond, not}
+use mathlib.Core.List.{List}
+use Prim.Native.Nat.{ℕ}
+use lib.Dec.{ltb, eqb}
+use lib.ListN.{length, getD}
+use Rattle.frames.specs.declared.finished.FinishedFrame.{FinishedFrame}
+use Rattle.frames.specs.Finished.{zeros}
+use Rattle.commands.specs.declared.table.Header.{Header}
+use Rattle.commands.specs.declared.table.Header.the-variants.{Unlisted, Wrong, Right}
+use Rattle.commands.specs.Table.{headerOf}
+use Rattle.commands.specs.Requests.{channelOf, requestFA, requestFB, requestFC, requestFD, packetOf}
+use Rattle.commands.specs.Replies.{maxReply}
+use Rattle.transfer.specs.declared.board.Board.{Board}
+use Rattle.transfer.specs.declared.state.Transfer.{Transfer}
+use Rattle.transfer.specs.declared.state.Step.{Step}
+use Rattle.transfer.specs.FA.{answerFA}
+use Rattle.transfer.specs.FB.{answerFB}
+use Rattle.transfer.specs.FC.{answerFC}
+use Rattle.transfer.specs.FD.{answerFD, areaFD}
+use Rattle.transfer.specs.FE.{answerFE}
+use Rattle.session.specs.declared.session.Session.{Session}
+use Rattle.session.specs.declared.answer.Answer.{Answer}
+use Rattle.session.specs.Outcomes.{isAnswered, unlistedCommand, wrongHeader, unlistedChannel, otherArea, isUnlawful, wrongPhase}
+use Rattle.session.specs.Boards.{pastBoard, placeOf}
+use Rattle.session.specs.Lawful.{unlawful}
+
+-- no reply, nothing changed
+abbrev pub unchanged : ℕ → Session → Answer
+unchanged outcome s = record { outcome = outcome; session = s; reply = zeros maxReply }
+
+-- the transfer's answer; outcome 10 where there is none
+abbrev pub stepped : Session → Step → Answer
+stepped s x =
+    record {
+      outcome = cond (x .answered) isAnswered wrongPhase;
+      session = record { boards = s .boards; count = s .count; opened = s .opened; transfer = x .transfer };
+      reply = x .reply;
+    }
+
+-- the place in the list of the frame's channel
+abbrev pub placeFor : Session → FinishedFrame → ℕ
+placeFor s f = placeOf (s .boards) (s .count) (channelOf (f .bytes))
+
+-- FA to FE
+unfoldable pub stepOf : Transfer → FinishedFrame → Board → List ℕ → Step
+stepOf t f b area =
+    cond (eqb (f .command) 0xFA) (answerFA t b (requestFA (f .bytes)))
+    (cond (eqb (f .command) 0xFB) (answerFB t b (requestFB (f .bytes)) area)
+    (cond (eqb (f .command) 0xFC) (answerFC t (requestFC (f .bytes)))
+    (cond (eqb (f .command) 0xFD) (answerFD t (requestFD (f .bytes)) (packetOf (f .length) (f .bytes)))
+    (answerFE t (channelOf (f .bytes)) area))))
+
+-- only FD writes into the area
+unfoldable pub areaOf : Transfer → FinishedFrame → List ℕ → List ℕ
+areaOf t f area = cond (eqb (f .command) 0xFD) (areaFD t (requestFD (f .bytes)) (packetOf (f .length) (f .bytes)) area) area
+
+-- "F9: noted, no reply, nothing changes"; outcome 4 for a channel that is not in the list
+unfoldable pub routed : Session → FinishedFrame → List ℕ → Answer
+routed s f area =
+    cond (eqb (f .command) 0xF9) (unchanged isAnswered s)
+    (cond (ltb (placeFor s f) (s .count))
+    (stepped s (stepOf (s .transfer) f (getD (s .boards) (placeFor s f) pastBoard) area))
+    (unchanged unlistedChannel s))
+
+unfoldable pub routedArea : Session → FinishedFrame → List ℕ → List ℕ
+routedArea s f area = cond (eqb (f .command) 0xF9) area (cond (ltb (placeFor s f) (s .count)) (areaOf (s .transfer) f area) area)
+
+-- outcomes 2 and 3
+abbrev pub byHeader : {A : Type 0} → Header → A → A → A → A
+byHeader Unlisted unlisted wrong right = unlisted
+byHeader Wrong unlisted wrong right = wrong
+byHeader Right unlisted wrong right = right
+
+abbrev pub headerOfFrame : FinishedFrame → Header
+headerOfFrame f = headerOf (f .version) (f .command) (f .length)
+
+unfoldable pub judged : Session → FinishedFrame → List ℕ → Answer
+judged s f area = byHeader (headerOfFrame f) (unchanged unlistedCommand s) (unchanged wrongHeader s) (routed s f area)
+
+unfoldable pub judgedArea : Session → FinishedFrame → List ℕ → List ℕ
+judgedArea s f area = byHeader (headerOfFrame f) area area (routedArea s f area)
+
+-- the answer to a finished frame: "9, 6", then the frame
+unfoldable pub answered : Session → FinishedFrame → List ℕ → Answer
+answered s f area = cond (unlawful s) (unchanged isUnlawful s) (cond (not (eqb (length area) (s .opened))) (unchanged otherArea s) (judged s f area))
+
+unfoldable pub areaAfter : Session → FinishedFrame → List ℕ → List ℕ
+areaAfter s f area = cond (unlawful s) area (cond (not (eqb (length area) (s .opened))) area (judgedArea s f area))

@@ -1,0 +1,49 @@
+-- 01, "Outcome numbers": "Outcome 9 is given exactly when: held is above 526; list or opened length breaks opening's rules; stored is
+-- above announced or announced above the opened length; next number is above 65,536; or, unless idle, the session's channel is not
+-- listed or the agreed size is not 16 to 512; or, in told, receiving or done, announced is 0." Of this the session has all but the held
+-- bytes. Assumes nothing.
+use mathlib.Core.Path.{_≡_}
+use mathlib.Core.Bool.{Bool, true, false, cond, not, _||_}
+use mathlib.Core.List.{List}
+use Prim.Native.Nat.{ℕ, _≤_, _<_}
+use lib.Dec.{ltb, eqb}
+use Rattle.commands.specs.Replies.{maxPacket}
+use Rattle.transfer.specs.declared.board.Board.{Board}
+use Rattle.transfer.specs.declared.state.Transfer.{Transfer}
+use Rattle.transfer.specs.Phases.{idle, hasImage}
+use Rattle.transfer.specs.Transfers.{maxNext}
+use Rattle.transfer.specs.FA.{minPacket}
+use Rattle.session.specs.declared.session.Session.{Session}
+use Rattle.session.specs.Boards.{placeOf, badList}
+use Rattle.session.specs.Opening.{maxArea, badArea}
+
+-- "stored is above announced or announced above the opened length; next number is above 65,536"
+abbrev pub badLengths : Transfer → ℕ → Bool
+badLengths t opened = ltb (t .image .announced) (t .stored) || (ltb opened (t .image .announced) || ltb maxNext (t .next))
+
+abbrev pub badSize : ℕ → Bool
+badSize agreed = ltb agreed minPacket || ltb maxPacket agreed
+
+-- "unless idle, the session's channel is not listed or the agreed size is not 16 to 512; or, in told, receiving or done, announced is 0"
+abbrev pub badSessionFields : Transfer → List Board → ℕ → Bool
+badSessionFields t bs n =
+    cond (idle (t .phase)) false
+    (not (ltb (placeOf bs n (t .channel)) n) || (badSize (t .agreed) || cond (hasImage (t .phase)) (eqb (t .image .announced) 0) false))
+
+unfoldable pub unlawful : Session → Bool
+unlawful s =
+    badList (s .boards) (s .count)
+    || (badArea (s .opened) || (badLengths (s .transfer) (s .opened) || badSessionFields (s .transfer) (s .boards) (s .count)))
+
+-- The same as propositions, one to a rule; they are proved to hold exactly where `unlawful` is false.
+pub record Lawful (s : Session) : Type 0 where
+  pub list : badList (s .boards) (s .count) ≡ false
+  pub some-area : 1 ≤ s .opened
+  pub small-area : s .opened ≤ maxArea
+  pub stored : s .transfer .stored ≤ s .transfer .image .announced
+  pub announced : s .transfer .image .announced ≤ s .opened
+  pub number : s .transfer .next ≤ maxNext
+  pub listed : idle (s .transfer .phase) ≡ false → placeOf (s .boards) (s .count) (s .transfer .channel) < s .count
+  pub least-size : idle (s .transfer .phase) ≡ false → minPacket ≤ s .transfer .agreed
+  pub most-size : idle (s .transfer .phase) ≡ false → s .transfer .agreed ≤ maxPacket
+  pub some-image : hasImage (s .transfer .phase) ≡ true → 0 < s .transfer .image .announced

@@ -1,0 +1,50 @@
+-- 01, "Outcome numbers": which number is which. Assumes nothing.
+use Prim.Native.Nat.{ℕ}
+
+-- "a frame answered, or F9 noted"
+abbrev pub isAnswered : ℕ
+isAnswered = 0
+
+-- "no whole frame yet"
+abbrev pub noFrame : ℕ
+noFrame = 1
+
+-- "command not in the table"
+abbrev pub unlistedCommand : ℕ
+unlistedCommand = 2
+
+-- "version byte or L wrong (FD: L below 7)"
+abbrev pub wrongHeader : ℕ
+wrongHeader = 3
+
+-- "channel not in the list (F9 exempt)"
+abbrev pub unlistedChannel : ℕ
+unlistedChannel = 4
+
+-- "reply room below 33 bytes"
+abbrev pub shortRoom : ℕ
+shortRoom = 5
+
+-- "area's length is not the opened one"
+abbrev pub otherArea : ℕ
+otherArea = 6
+
+-- "opening: area's length not 1 to 1,048,576"
+abbrev pub badAreaLength : ℕ
+badAreaLength = 7
+
+-- "opening: list breaks its rules"
+abbrev pub badBoards : ℕ
+badBoards = 8
+
+-- "record breaks its rules"
+abbrev pub isUnlawful : ℕ
+isUnlawful = 9
+
+-- "FB or FC in a wrong phase or channel"
+abbrev pub wrongPhase : ℕ
+wrongPhase = 10
+
+-- "outward F9: room below 8 + 7n"
+abbrev pub shortReportRoom : ℕ
+shortReportRoom = 11

@@ -1,0 +1,140 @@
+// What a finished frame is answered.
+use crate::list;
+use crate::outcome;
+use crate::session::Session;
+use commands::reply;
+use commands::request;
+use commands::table;
+use commands::table::Header;
+use frames::finished::FinishedFrame;
+use transfer::board::Board;
+use transfer::state::Step;
+use transfer::state::Transfer;
+ghost use mathlib.Core.Path.{_≡_};
+ghost use mathlib.Core.Bool.{false};
+ghost use Prim.Native.Nat.{_≤_, _<_};
+ghost use lib.ListN.{length};
+ghost use Rattle.transfer.specs.Transfers.{Sound};
+ghost use Rattle.session.specs.Boards.{maxBoards};
+ghost use Rattle.session.specs.Lawful.{unlawful};
+ghost use Rattle.session.specs.Answering.{unchanged, stepped, placeFor, stepOf, areaOf, routed, routedArea, judged, judgedArea, answered, areaAfter};
+
+// What a frame makes of a session. Only with outcome 0 is there a reply, and its command says whether there is one.
+pub struct Answer {
+    pub outcome: u8,
+    pub session: Session,
+    pub reply: [u8; 26],
+}
+
+impl Session {
+    // The answer to a finished frame. An unlawful session, or an area of another length than the opened one, is refused.
+    pub fn answer(self, f: FinishedFrame, area: &mut [u8]) -> Answer
+        ensures { λ r. ⌜ (r ≡ answered self f (now (area .entry))) × (now (area .exit) ≡ areaAfter self f (now (area .entry))) ⌝ }
+    {
+        if self.unlawful() {
+            return Answer::unchanged(outcome::UNLAWFUL, self);
+        }
+        if area.len() != self.opened {
+            return Answer::unchanged(outcome::OTHER_AREA, self);
+        }
+        self.judge(f, area)
+    }
+
+    // Outcomes 2 and 3, by the command table.
+    fn judge(self, f: FinishedFrame, area: &mut [u8]) -> Answer
+        requires { ⌜ unlawful self ≡ false ⌝ }
+        requires { ⌜ length (now area) ≡ self .opened ⌝ }
+        ensures { λ r. ⌜ (r ≡ judged self f (now (area .entry))) × (now (area .exit) ≡ judgedArea self f (now (area .entry))) ⌝ }
+    {
+        let header = table::header_of(f.version, f.command, f.length);
+        match header {
+            Header::Unlisted => Answer::unchanged(outcome::UNLISTED_COMMAND, self),
+            Header::Wrong => Answer::unchanged(outcome::WRONG_HEADER, self),
+            Header::Right => self.route(f, area),
+        }
+    }
+
+    // F9 is noted; any other frame goes to the board of its channel, outcome 4 where there is none.
+    fn route(self, f: FinishedFrame, area: &mut [u8]) -> Answer
+        requires { ⌜ unlawful self ≡ false ⌝ }
+        requires { ⌜ length (now area) ≡ self .opened ⌝ }
+        ensures { λ r. ⌜ (r ≡ routed self f (now (area .entry))) × (now (area .exit) ≡ routedArea self f (now (area .entry))) ⌝ }
+    {
+        if f.command == table::F9 {
+            return Answer::unchanged(outcome::ANSWERED, self);
+        }
+        let i = self.place_for(f);
+        if i < self.count {
+            let boards = self.boards;
+            let board = list::board_at(boards, i);
+            let transfer = self.transfer;
+            let step = respond(transfer, f, board, area);
+            return Answer::stepped(self, step);
+        }
+        Answer::unchanged(outcome::UNLISTED_CHANNEL, self)
+    }
+
+    fn place_for(self, f: FinishedFrame) -> usize
+        requires { ⌜ self .count ≤ maxBoards ⌝ }
+        ensures { λ r. ⌜ (r ≡ placeFor self f) × (r ≤ self .count) ⌝ }
+    {
+        let boards = self.boards;
+        let d = f.bytes;
+        list::place_of(boards, self.count, request::channel(&d))
+    }
+}
+
+impl Answer {
+    // No reply, nothing changed.
+    fn unchanged(outcome: u8, session: Session) -> Answer
+        ensures { λ r. ⌜ r ≡ unchanged outcome session ⌝ }
+    {
+        let reply = reply::none();
+        Answer {
+            outcome,
+            session,
+            reply,
+        }
+    }
+
+    fn stepped(session: Session, step: Step) -> Answer
+        ensures { λ r. ⌜ r ≡ stepped session step ⌝ }
+    {
+        let reply = step.reply;
+        let next = session.with_transfer(step.transfer);
+        if step.answered {
+            return Answer {
+                outcome: outcome::ANSWERED,
+                session: next,
+                reply,
+            };
+        }
+        Answer {
+            outcome: outcome::WRONG_PHASE,
+            session: next,
+            reply,
+        }
+    }
+}
+
+// The transfer's answer to a frame of the table for its board.
+fn respond(t: Transfer, f: FinishedFrame, board: Board, area: &mut [u8]) -> Step
+    requires { ⌜ Sound t (length (now area)) ⌝ }
+    ensures { λ r. ⌜ (r ≡ stepOf t f board (now (area .entry))) × (now (area .exit) ≡ areaOf t f (now (area .entry))) ⌝ }
+{
+    let command = f.command;
+    let d = f.bytes;
+    if command == table::FA {
+        return t.fa(request::fa(&d), board);
+    }
+    if command == table::FB {
+        return t.fb(request::fb(&d), board, &area[..]);
+    }
+    if command == table::FC {
+        return t.fc(request::fc(&d));
+    }
+    if command == table::FD {
+        return t.fd(request::fd(&d), request::packet(&d, f.length), area);
+    }
+    t.fe(request::channel(&d), &area[..])
+}

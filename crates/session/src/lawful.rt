@@ -1,0 +1,78 @@
+// Outcome 9's sentence, for what a session holds.
+use crate::list;
+use crate::session::Session;
+use crate::session::bad_area;
+use commands::reply::MAX_PACKET;
+use transfer::MIN_PACKET;
+use transfer::board::Board;
+use transfer::phase::has_image;
+use transfer::phase::is_idle;
+use transfer::state::Transfer;
+ghost use mathlib.Core.Path.{_≡_};
+ghost use Prim.Native.Nat.{_≤_};
+ghost use Rattle.session.specs.Boards.{maxBoards};
+ghost use Rattle.session.specs.Lawful.{badLengths, badSize, badSessionFields, unlawful};
+
+// After number 65,535 no packet is next.
+const MAX_NEXT: usize = 65536;
+
+impl Session {
+    pub fn unlawful(self) -> bool
+        ensures { λ r. ⌜ r ≡ unlawful self ⌝ }
+    {
+        let boards = self.boards;
+        let transfer = self.transfer;
+        if list::bad_list(boards, self.count) {
+            return true;
+        }
+        if bad_area(self.opened) {
+            return true;
+        }
+        if bad_lengths(transfer, self.opened) {
+            return true;
+        }
+        bad_session_fields(transfer, boards, self.count)
+    }
+}
+
+fn bad_lengths(t: Transfer, opened: usize) -> bool
+    ensures { λ r. ⌜ r ≡ badLengths t opened ⌝ }
+{
+    let announced = t.image.announced;
+    if announced < t.stored {
+        return true;
+    }
+    if opened < announced {
+        return true;
+    }
+    MAX_NEXT < t.next
+}
+
+fn bad_session_fields(t: Transfer, boards: [Board; list::MAX_BOARDS], count: usize) -> bool
+    requires { ⌜ count ≤ maxBoards ⌝ }
+    ensures { λ r. ⌜ r ≡ badSessionFields t boards count ⌝ }
+{
+    let phase = t.phase;
+    if is_idle(phase) {
+        return false;
+    }
+    if count <= list::place_of(boards, count, t.channel) {
+        return true;
+    }
+    if bad_size(t.agreed) {
+        return true;
+    }
+    if has_image(phase) {
+        return t.image.announced == 0;
+    }
+    false
+}
+
+fn bad_size(agreed: usize) -> bool
+    ensures { λ r. ⌜ r ≡ badSize agreed ⌝ }
+{
+    if agreed < MIN_PACKET {
+        return true;
+    }
+    MAX_PACKET < agreed
+}

@@ -1,0 +1,24 @@
+// The outcome numbers of document 01.
+pub const ANSWERED: u8 = 0;
+
+pub const NO_FRAME: u8 = 1;
+
+pub const UNLISTED_COMMAND: u8 = 2;
+
+pub const WRONG_HEADER: u8 = 3;
+
+pub const UNLISTED_CHANNEL: u8 = 4;
+
+pub const SHORT_ROOM: u8 = 5;
+
+pub const OTHER_AREA: u8 = 6;
+
+pub const BAD_AREA: u8 = 7;
+
+pub const BAD_LIST: u8 = 8;
+
+pub const UNLAWFUL: u8 = 9;
+
+pub const WRONG_PHASE: u8 = 10;
+
+pub const SHORT_REPORT_ROOM: u8 = 11;

@@ -1,0 +1,76 @@
+// The outward F9: the list as the module is told it.
+use crate::list;
+use crate::session::Session;
+use commands::table;
+use frames::writer;
+use transfer::board::Board;
+ghost use mathlib.Core.Path.{_≡_};
+ghost use Prim.Native.Nat.{_+_, _*_, _≤_};
+ghost use Rattle.frames.specs.Finished.{padded};
+ghost use Rattle.transfer.specs.FD.{writtenAt};
+ghost use Rattle.session.specs.Boards.{maxBoards};
+ghost use Rattle.session.specs.Report.{boardBytes, reportBytes, maxReport, ReportWritten};
+
+// A board's channel, soft version and hard version.
+const BOARD_SIZE: usize = 7;
+
+// The count, and ten boards.
+const MAX_REPORT: usize = 71;
+
+impl Session {
+    // Writes the report of the list to the front of room and gives its size; 0, and nothing written, where the room is too short for
+    // it or the list has more than ten boards.
+    pub fn report(self, room: &mut [u8]) -> usize
+        ensures { λ r. ⌜ ReportWritten self (now (room .entry)) r (now (room .exit)) ⌝ }
+    {
+        let count = self.count;
+        if list::MAX_BOARDS < count {
+            return 0;
+        }
+        let boards = self.boards;
+        let row = table::row_of(table::F9);
+        let d = report_data(boards, count);
+        let n = 1 + BOARD_SIZE * count;
+        writer::write(row.version, table::F9, &d[..n], room)
+    }
+}
+
+fn report_data(boards: [Board; list::MAX_BOARDS], count: usize) -> [u8; MAX_REPORT]
+    requires { ⌜ count ≤ maxBoards ⌝ }
+    ensures { λ r. ⌜ r ≡ padded maxReport (reportBytes boards count) ⌝ }
+{
+    let mut d = [0u8; MAX_REPORT];
+    d[0] = count as u8;
+    let mut i = 0;
+    while i < count {
+        d = with_board(d, 1 + BOARD_SIZE * i, list::board_at(boards, i));
+        i += 1;
+    }
+    d
+}
+
+fn with_board(d: [u8; MAX_REPORT], at: usize, board: Board) -> [u8; MAX_REPORT]
+    requires { ⌜ at + 7 ≤ maxReport ⌝ }
+    ensures { λ r. ⌜ r ≡ writtenAt d at (boardBytes board) ⌝ }
+{
+    let mut next = d;
+    let piece = board_bytes(board);
+    bytes::copy(&piece, &mut next[at..]);
+    next
+}
+
+fn board_bytes(board: Board) -> [u8; BOARD_SIZE]
+    ensures { λ r. ⌜ r ≡ boardBytes board ⌝ }
+{
+    let soft = board.soft;
+    let hard = board.hard;
+    [
+        board.channel,
+        soft[0],
+        soft[1],
+        soft[2],
+        hard[0],
+        hard[1],
+        hard[2],
+    ]
+}

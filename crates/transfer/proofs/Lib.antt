@@ -1,0 +1,5 @@
+-- The laws that belong to no one function, by subject.
+pub mod Choices
+pub mod Sames
+pub mod Packets
+pub mod Results

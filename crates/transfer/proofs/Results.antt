@@ -1,0 +1,64 @@
+-- What the answers leave, each by itself. Assumes nothing.
+use mathlib.Core.Path.{_≡_, refl, sym, ap, ap₂, _∙_}
+use mathlib.Core.Bool.{Bool, true, false, cond, not, _||_}
+use mathlib.Core.List.{List, _++_}
+use Prim.Native.Nat.{ℕ, _+_, _<_, _≤_}
+use native.Mathlib.Omega.{arith}
+use borrow.Author.Tests.{eq-eqb, ne-eqb}
+use lib.Dec.{eqb}
+use lib.ListN.{length, take, drop, getD}
+use Rattle.frames.specs.Finished.{padded}
+use Rattle.commands.specs.declared.request.RequestFD.{RequestFD}
+use Rattle.commands.specs.Replies.{maxReply, replyState}
+use Rattle.transfer.specs.declared.phase.Phase.the-variants.{Idle}
+use Rattle.transfer.specs.declared.state.Transfer.{Transfer}
+use Rattle.transfer.specs.declared.state.Step.{Step}
+use Rattle.transfer.specs.Phases.{receivingOrDone}
+use Rattle.transfer.specs.Identities.{noIdentity}
+use Rattle.transfer.specs.Transfers.{maxNext, afterPacket, withProgress, otherChannel, replied}
+use Rattle.transfer.specs.FD.{notReceivingHere, stateFD, answerFD, writtenAt, areaFD}
+use Rattle.transfer.specs.FE.{rightCrc, answerFE}
+use Rattle.transfer.proofs.Choices.{of-both}
+use Rattle.transfer.proofs.Packets.{taken-next}
+
+module _ (t : Transfer) (r : RequestFD) (p area : List ℕ) where
+  -- FD answered 00: the area's bytes before place stored, the packet, and the bytes behind it
+  pub packet-stored : stateFD t r p ≡ 0 → areaFD t r p area ≡ take (t .stored) area ++ (p ++ drop (t .stored + length p) area)
+  unfolding areaFD writtenAt
+  packet-stored e = rw (eq-eqb (stateFD t r p) 0 e)
+
+  pub packet-counted : stateFD t r p ≡ 0 → answerFD t r p ≡ replied (afterPacket t (length p)) (replyState (r .channel) 0)
+  unfolding answerFD
+  packet-counted e = rw (eq-eqb (stateFD t r p) 0 e)
+
+  -- any other state changes nothing: neither the area nor the transfer
+  pub packet-refused : (stateFD t r p ≡ 0 → ⊥) → (areaFD t r p area ≡ area) × (answerFD t r p ≡ replied t (replyState (r .channel) (stateFD t r p)))
+  unfolding areaFD answerFD
+  packet-refused n = (rw (ne-eqb (stateFD t r p) 0 n), rw (ne-eqb (stateFD t r p) 0 n))
+
+  -- after number 65,535 no packet is next: a number has two bytes
+  pub none-next : t .next ≡ maxNext → r .number < maxNext → stateFD t r p ≡ 0 → ⊥
+  none-next last small e = let n = taken-next t r p e in omega arith
+
+module _ (t : Transfer) (channel : ℕ) (area : List ℕ) where
+  -- a failed end check: idle, nothing stored, no identity, all else as it was
+  pub end-failed : receivingOrDone (t .phase) ≡ true → channel ≡ t .channel → t .stored ≡ t .image .announced → rightCrc t area ≡ false
+      → answerFE t channel area ≡ replied (withProgress t Idle (t .next) 0 noIdentity) (replyState channel 3)
+  unfolding answerFE
+  end-failed phase here full wrong =
+      let there : (not (receivingOrDone (t .phase)) || otherChannel t channel) ≡ false = ap₂ _||_ (ap not phase) (ap not (eq-eqb channel (t .channel) here)) in
+      simp (there, eq-eqb (t .stored) (t .image .announced) full, wrong)
+
+  -- replies with another state are other replies
+  state-of : (m n : ℕ) → padded maxReply (replyState channel m) ≡ padded maxReply (replyState channel n) → m ≡ n
+  unfolding replyState
+  state-of m n e = ap (λ (d : List ℕ). getD d 1 0) e
+
+  -- "State 02 of the page is never sent"
+  pub never-state-02 : answerFE t channel area .reply ≡ padded maxReply (replyState channel 2) → ⊥
+  unfolding answerFE
+  never-state-02 =
+      let Other : Step → Type 0 = λ x. x .reply ≡ padded maxReply (replyState channel 2) → ⊥ in
+      of-both Other (not (receivingOrDone (t .phase)) || otherChannel t channel) _ _ (λ e. let z = state-of 3 2 e in omega arith)
+      (of-both Other (not (eqb (t .stored) (t .image .announced))) _ _ (λ e. let z = state-of 1 2 e in omega arith)
+      (of-both Other (rightCrc t area) _ _ (λ e. let z = state-of 0 2 e in omega arith) (λ e. let z = state-of 3 2 e in omega arith)))

@@ -1,0 +1,13 @@
+-- `transfer::state::Transfer::none` meets its contract. Assumes nothing.
+use borrow.Author.Needs.{needs}
+use Rattle.transfer.proofs.state.Transfer.none.Statement.{statement}
+use Rattle.transfer.proofs.state.Transfer.none.Tie as tie
+
+none-requires : tie.Need-none-requires
+none-requires c κs = search needs
+
+returns : tie.Need-returns
+returns c = simp (c .none .ensures)
+
+pub none-spec : {M : Type 1} → statement M
+none-spec = tie.close (tie.spec none-requires returns)

@@ -1,0 +1,51 @@
+-- `transfer::state::Transfer::packet_state` meets its contract. Assumes nothing.
+use borrow.Author.Needs.{needs}
+use Rattle.transfer.specs.FD.{stateFD}
+use Rattle.transfer.proofs.state.Transfer.packet_state.Statement.{statement}
+use Rattle.transfer.proofs.state.Transfer.packet_state.Tie as tie
+
+not-receiving-here-requires : tie.Need-not-receiving-here-requires
+not-receiving-here-requires c κs = search needs
+
+returns : tie.Need-returns
+unfolding stateFD
+returns c = simp (← c .before .not-receiving-here .ensures, c .if1 .taken)
+
+out-of-order-requires : tie.Need-out-of-order-requires
+out-of-order-requires c κs = search needs
+
+returns-2 : tie.Need-returns-2
+unfolding stateFD
+returns-2 c = simp (← c .before .before .before .not-receiving-here .ensures, c .before .before .if1 .left, ← c .before .out-of-order .ensures, c .if2 .taken)
+
+wrong-size-requires : tie.Need-wrong-size-requires
+wrong-size-requires c κs = search needs
+
+returns-3 : tie.Need-returns-3
+unfolding stateFD
+returns-3 c = simp (← c .before .before .before .before .before .not-receiving-here .ensures, c .before .before .before .before .if1 .left, ← c .before .before .before .out-of-order .ensures, c .before .before .if2 .left, ← c .before .wrong-size .ensures, c .if3 .taken)
+
+wrong-crc-requires : tie.Need-wrong-crc-requires
+wrong-crc-requires c κs = search needs
+
+returns-4 : tie.Need-returns-4
+unfolding stateFD
+returns-4 c = simp (← c .before .before .before .before .before .before .before .not-receiving-here .ensures, c .before .before .before .before .before .before .if1 .left, ← c .before .before .before .before .before .out-of-order .ensures, c .before .before .before .before .if2 .left, ← c .before .before .before .wrong-size .ensures, c .before .before .if3 .left, ← c .before .wrong-crc .ensures, c .if4 .taken)
+
+returns-5 : tie.Need-returns-5
+unfolding stateFD
+returns-5 c = simp (← c .before .before .before .before .before .before .before .not-receiving-here .ensures, c .before .before .before .before .before .before .if1 .left, ← c .before .before .before .before .before .out-of-order .ensures, c .before .before .before .before .if2 .left, ← c .before .before .before .wrong-size .ensures, c .before .before .if3 .left, ← c .before .wrong-crc .ensures, c .if4 .left)
+
+pub packet-state-spec : {M : Type 1} → statement M
+packet-state-spec =
+    tie.close
+    (tie.spec
+    not-receiving-here-requires
+    returns
+    out-of-order-requires
+    returns-2
+    wrong-size-requires
+    returns-3
+    wrong-crc-requires
+    returns-4
+    returns-5)

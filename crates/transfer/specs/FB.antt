@@ -1,0 +1,43 @@
+-- 01, "How the session answers": "FB, any phase but idle, on the session's channel; else outcome 10. In order: PID differs, 01;
+-- version not above the board's soft one, 02; length 0 or above the area's, 03. These set phase idle, change nothing else, and reply
+-- with stored and CRC zero. Otherwise 00, phase told; if the identity is the one already held, stored stays, else the identity is
+-- replaced and stored becomes 0. The CRC-32 replied is that of the area's first stored bytes at that moment." Assumes nothing.
+use mathlib.Core.Bool.{Bool, cond, not, _||_}
+use mathlib.Core.List.{List}
+use Prim.Native.Nat.{ℕ}
+use lib.Dec.{ltb, eqb}
+use lib.ListN.{length, take}
+use Rattle.crc.specs.Crc.{checksum, crc32}
+use Rattle.commands.specs.declared.request.RequestFB.{RequestFB}
+use Rattle.commands.specs.Replies.{replyFB}
+use Rattle.transfer.specs.declared.phase.Phase.the-variants.{Idle, Told}
+use Rattle.transfer.specs.declared.board.Board.{Board}
+use Rattle.transfer.specs.declared.state.Transfer.{Transfer}
+use Rattle.transfer.specs.declared.state.Step.{Step}
+use Rattle.transfer.specs.Phases.{idle}
+use Rattle.transfer.specs.Identities.{same, newer, identityOf, sameIdentity}
+use Rattle.transfer.specs.Transfers.{withPhase, withProgress, otherChannel, replied, unanswered}
+
+-- the state replied, n being the area's length
+unfoldable pub stateFB : Board → RequestFB → ℕ → ℕ
+stateFB b r n =
+    cond (not (same (r .pid) (b .pid))) 1
+    (cond (not (newer (r .version) (b .soft))) 2
+    (cond (eqb (r .length) 0 || ltb n (r .length)) 3 0))
+
+-- what a granted FB leaves
+unfoldable pub afterFB : Transfer → RequestFB → Transfer
+afterFB t r = cond (sameIdentity (identityOf r) (t .image)) (withPhase t Told) (withProgress t Told (t .next) 0 (identityOf r))
+
+unfoldable pub grantFB : Transfer → RequestFB → List ℕ → Step
+grantFB t r area =
+    let next = afterFB t r in
+    replied next (replyFB (r .channel) 0 (next .stored) (checksum crc32 (take (next .stored) area)))
+
+unfoldable pub answerFB : Transfer → Board → RequestFB → List ℕ → Step
+answerFB t b r area =
+    cond (idle (t .phase) || otherChannel t (r .channel))
+    (unanswered t)
+    (cond (eqb (stateFB b r (length area)) 0)
+    (grantFB t r area)
+    (replied (withPhase t Idle) (replyFB (r .channel) (stateFB b r (length area)) 0 0)))

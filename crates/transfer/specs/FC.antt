@@ -1,0 +1,22 @@
+-- 01, "How the session answers": "FC, phase told or receiving, session's channel; else outcome 10. If offset equals stored, the reply
+-- is that offset. Otherwise stored becomes 0 and the reply is 0. Phase receiving, next number 0." Assumes nothing.
+use mathlib.Core.Bool.{cond, not, _||_}
+use Prim.Native.Nat.{ℕ}
+use lib.Dec.{eqb}
+use Rattle.commands.specs.declared.request.RequestFC.{RequestFC}
+use Rattle.commands.specs.Replies.{replyFC}
+use Rattle.transfer.specs.declared.phase.Phase.the-variants.{Receiving}
+use Rattle.transfer.specs.declared.state.Transfer.{Transfer}
+use Rattle.transfer.specs.declared.state.Step.{Step}
+use Rattle.transfer.specs.Phases.{toldOrReceiving}
+use Rattle.transfer.specs.Transfers.{withProgress, otherChannel, replied, unanswered}
+
+-- from which offset the leg starts: that of the request, if so much is stored
+abbrev pub startOf : Transfer → RequestFC → ℕ
+startOf t r = cond (eqb (r .offset) (t .stored)) (t .stored) 0
+
+unfoldable pub answerFC : Transfer → RequestFC → Step
+answerFC t r =
+    cond (not (toldOrReceiving (t .phase)) || otherChannel t (r .channel))
+    (unanswered t)
+    (replied (withProgress t Receiving 0 (startOf t r) (t .image)) (replyFC (r .channel) (startOf t r)))

@@ -1,0 +1,40 @@
+// FA: may an image be sent?
+use crate::MIN_PACKET;
+use crate::board::Board;
+use crate::state::Step;
+use crate::state::Transfer;
+use commands::reply;
+use commands::request::RequestFA;
+ghost use mathlib.Core.Path.{_≡_};
+ghost use Rattle.transfer.specs.FA.{refusedFA, agreedSize, answerFA};
+
+impl Transfer {
+    pub fn fa(self, r: RequestFA, board: Board) -> Step
+        ensures { λ s. ⌜ s ≡ answerFA self board r ⌝ }
+    {
+        let soft = board.soft;
+        if refused(r, board) {
+            return Step::replied(self, reply::fa(r.channel, 1, soft));
+        }
+        let next = self.asked(r.channel, agreed(r.len1));
+        Step::replied(next, reply::fa(r.channel, 0, soft))
+    }
+}
+
+fn refused(r: RequestFA, board: Board) -> bool
+    ensures { λ x. ⌜ x ≡ refusedFA board r ⌝ }
+{
+    if board.permit {
+        return r.len1 < MIN_PACKET;
+    }
+    true
+}
+
+fn agreed(len1: usize) -> usize
+    ensures { λ x. ⌜ x ≡ agreedSize len1 ⌝ }
+{
+    if len1 < reply::MAX_PACKET {
+        return len1;
+    }
+    reply::MAX_PACKET
+}
