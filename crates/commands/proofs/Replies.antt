@@ -7,10 +7,10 @@ use native.Mathlib.Omega.{arith}
 use borrow.Author.Tests.{le-ltb, lt-ltb, ltb-true}
 use lib.Dec.{ltb}
 use lib.ListN.{length, take, drop, length-take}
-use lib.Seq.{length-take-le}
+use lib.Seq.{length-take-le, take-at}
 use Rattle.frames.specs.Frame.{maxData, frameSize, Frame, encode, frameAt}
 use Rattle.frames.specs.Buffer.{wholeAt, writable, writtenSize, writtenRoom}
-use Rattle.frames.proofs.Writes.{writable-fits}
+use Rattle.frames.proofs.Writes.{encode-size, writable-fits}
 use Rattle.frames.proofs.RoundTrips.{size-written, room-written, whole-written, frame-written}
 use Rattle.commands.specs.declared.table.Row.{Row}
 use Rattle.commands.specs.Table.{placeOf, rowAt}
@@ -42,7 +42,6 @@ pub unreplied-room : (command : ℕ) (d room : List ℕ) → hasReply command �
 unfolding replyRoom
 unreplied-room command d room e = rw e
 
--- the room of a call is wide enough for every reply
 module _ (command : ℕ) (d room : List ℕ) (e : hasReply command ≡ true) where
   pub replied-size : replySize command d room ≡ writtenSize (replyFrame command d) room
   unfolding replySize
@@ -52,28 +51,37 @@ module _ (command : ℕ) (d room : List ℕ) (e : hasReply command ≡ true) whe
   unfolding replyRoom
   replied-room = rw e
 
-  module _ (size : length d ≡ maxReply) (wide : 33 ≤ length room) where
-    payload-size : length (replyFrame command d .payload) ≡ rowAt (placeOf command) .«reply_length»
-    unfolding replyFrame
-    payload-size = length-take-le (rowAt (placeOf command) .«reply_length») d (omega (arith, reply-short (placeOf command)))
+  payload-short : length (replyFrame command d .payload) ≤ maxReply
+  unfolding replyFrame
+  payload-short = omega (arith, length-take (rowAt (placeOf command) .«reply_length») d, reply-short (placeOf command))
 
+  -- the room of a call is wide enough for every reply
+  module _ (wide : 33 ≤ length room) where
     reply-writable : writable (replyFrame command d) room ≡ true
-    reply-writable =
-        let k = reply-short (placeOf command) in
-        writable-fits (replyFrame command d) room (omega (arith, payload-size)) (omega (arith, payload-size))
+    reply-writable = writable-fits (replyFrame command d) room (omega (arith, payload-short)) (omega (arith, payload-short))
+
+    pub whole-size : replySize command d room ≡ frameSize (length (replyFrame command d .payload))
+    whole-size = replied-size ∙ size-written (replyFrame command d) room reply-writable
+
+    pub reply-some : replySize command d room ≡ 0 → ⊥
+    reply-some z = omega (arith, whole-size)
 
     -- 7 + L, L being the table's
-    pub reply-size : replySize command d room ≡ frameSize (rowAt (placeOf command) .«reply_length»)
-    reply-size = replied-size ∙ size-written (replyFrame command d) room reply-writable ∙ ap frameSize payload-size
+    pub reply-size : length d ≡ maxReply → replySize command d room ≡ frameSize (rowAt (placeOf command) .«reply_length»)
+    unfolding replyFrame
+    reply-size size = whole-size ∙ ap frameSize (length-take-le (rowAt (placeOf command) .«reply_length») d (omega (arith, reply-short (placeOf command))))
 
     -- the reply stands at the front of the room, and the rest of the room stays
     pub reply-room : replyRoom command d room ≡ encode (replyFrame command d) ++ drop (replySize command d room) room
     reply-room =
         replied-room
         ∙ room-written (replyFrame command d) room reply-writable
-        ∙ ap (λ (n : ℕ). encode (replyFrame command d) ++ drop n room) (sym (replied-size ∙ size-written (replyFrame command d) room reply-writable))
+        ∙ ap (λ (n : ℕ). encode (replyFrame command d) ++ drop n room) (sym whole-size)
 
-    -- and reads back as the whole frame of that command, version and data
+    pub reply-front : take (replySize command d room) (replyRoom command d room) ≡ encode (replyFrame command d)
+    reply-front = ap (take (replySize command d room)) reply-room ∙ take-at (encode (replyFrame command d)) _ (replySize command d room) (encode-size (replyFrame command d) ∙ sym whole-size)
+
+    -- it reads back as the whole frame of that command, version and data
     pub reply-whole : wholeAt (replyRoom command d room) ≡ true
     reply-whole = ap wholeAt replied-room ∙ whole-written (replyFrame command d) room reply-writable
 

@@ -18,7 +18,8 @@ pub record ReplyFrames : Type 0 where
   pub fc : (channel offset : ℕ) → replyFrame 0xFC (padded maxReply (replyFC channel offset)) ≡ frame 0x00 0xFC (replyFC channel offset)
   pub fd : (channel state : ℕ) → replyFrame 0xFD (padded maxReply (replyState channel state)) ≡ frame 0x00 0xFD (replyState channel state)
   pub fe : (channel state : ℕ) → replyFrame 0xFE (padded maxReply (replyState channel state)) ≡ frame 0x00 0xFE (replyState channel state)
-  -- F9 has no reply
+  -- FE has a reply, F9 none
+  pub fe-replied : hasReply 0xFE ≡ true
   pub f9 : hasReply 0xF9 ≡ false
 
 pub reply-frames : ReplyFrames
@@ -30,5 +31,6 @@ reply-frames =
       fc = λ channel offset. refl;
       fd = λ channel state. refl;
       fe = λ channel state. refl;
+      fe-replied = refl;
       f9 = refl;
     }

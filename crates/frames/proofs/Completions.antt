@@ -7,21 +7,16 @@ use native.Mathlib.Nat.{mod-lt, zero-lt-suc}
 use native.Mathlib.Omega.{arith}
 use borrow.Author.Tests.{leb-true, eqb-true}
 use lib.Dec.{leb, eqb}
-use lib.ListN.{length, take, getD, replicate, length-append, length-replicate, List·getD-append, List·getD-eq-default}
+use lib.ListN.{length, take, getD, length-append, length-replicate, List·getD-append, List·getD-eq-default}
 use lib.Seq.{take-at, getD-at, getD-append-add}
 use Rattle.frames.specs.declared.front.Front.the-variants.{Whole, Open}
 use Rattle.frames.specs.Frame.{Bytes, head1, head2, maxData, headerSize, frameSize, number16, total, sumByte, lengthAt}
 use Rattle.frames.specs.Fronts.{frontOf}
+use Rattle.frames.specs.Finished.{zeros}
 use Rattle.frames.proofs.Orders.{lt-or-le}
 use Rattle.frames.proofs.Bytes.{bytes-append}
+use Rattle.frames.proofs.Padding.{bytes-zeros}
 use Rattle.frames.proofs.Fronts.{test-is-open, whole-open, sumRight, fromSum, fromLength, fromHigh, fromHead2, whole-sum}
-
-abbrev zeros : ℕ → List ℕ
-zeros k = replicate k 0
-
-bytes-zeros : (k : ℕ) → Bytes (zeros k)
-bytes-zeros zero = tt
-bytes-zeros (suc k) = (zero-lt-suc 255, bytes-zeros k)
 
 getD-zeros : (k i : ℕ) → getD (zeros k) i 0 ≡ 0
 getD-zeros zero i = refl

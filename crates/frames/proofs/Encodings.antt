@@ -7,8 +7,9 @@ use native.Mathlib.Omega.{arith}
 use lib.ListN.{length, take, drop, getD, length-append, length-drop, take-append-drop}
 use lib.Seq.{take-add, drop-cons, take-at, drop-at, getD-at, take-append-seam, length-take-le}
 use Rattle.frames.specs.declared.front.Front.the-variants.{Whole}
-use Rattle.frames.specs.Frame.{Bytes, maxData, headerSize, frameSize, sumByte, Frame, unsummed, encode, WholeFrame, lengthAt, frameAt}
+use Rattle.frames.specs.Frame.{Bytes, maxData, headerSize, frameSize, sumByte, Frame, FrameBytes, unsummed, encode, lengthAt, frameAt}
 use Rattle.frames.specs.Fronts.{frontOf}
+use Rattle.frames.proofs.Bytes.{bytes-append}
 use Rattle.frames.proofs.Fronts.{Passed, whole-passed, passed-whole}
 use Rattle.frames.proofs.Writes.{unsummed-size, encode-size}
 
@@ -55,6 +56,15 @@ module _ (f : Frame) (s : List ℕ) where
             there = omega (arith, length-encoded, encode-size f, length-append (encode f) s);
             sum = last ∙ ap sumByte (sym front);
           }
+
+pub encode-bytes : (f : Frame) → FrameBytes f → length (f .payload) ≤ maxData → Bytes (encode f)
+unfolding encode unsummed
+encode-bytes f p small =
+    let L = length (f .payload) in
+    let high : L / 256 < 256 = omega arith in
+    let low : L % 256 < 256 = omega arith in
+    let sum : sumByte (unsummed f) < 256 = omega arith in
+    bytes-append (unsummed f) (sumByte (unsummed f) ∷ []) (omega arith, (omega arith, (p .version, (p .command, (high, (low, p .payload)))))) (sum, tt)
 
 -- ---- from a whole front to the frame and back
 

@@ -1,13 +1,25 @@
 -- The laws that belong to no one function, by subject. The crates above cite those marked `pub mod`, and no definition's text.
 pub mod Orders
+mod Slices
+mod Looks
 mod Sums
 pub mod Bytes
+pub mod Padding
+pub mod FinishedFrames
 pub mod Fronts
 pub mod MoreBytes
 pub mod Writes
 pub mod Encodings
 mod Completions
 pub mod FrontMeanings
-pub mod Readings
 pub mod RoundTrips
+pub mod Readings
+mod Turns
+mod Positions
+mod Steps
+pub mod Calls
+pub mod FedAlone
+pub mod LiveReadings
+pub mod PlainRuns
+pub mod Remains
 pub mod Vectors

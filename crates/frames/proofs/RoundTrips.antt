@@ -1,6 +1,6 @@
 -- What the writer writes the reader reads back, and a whole frame is what the writer writes for its fields. Assumes nothing.
-use mathlib.Core.Path.{_≡_, refl, sym, ap, ap₂, _∙_}
-use mathlib.Core.Bool.{Bool, true, false, cond, and-eq-true-iff}
+use mathlib.Core.Path.{_≡_, sym, ap, ap₂, _∙_}
+use mathlib.Core.Bool.{Bool, true, cond, and-eq-true-iff}
 use mathlib.Core.List.{List, [], _++_}
 use Prim.Native.Nat.{ℕ, _≤_}
 use native.Mathlib.Omega.{arith}
@@ -8,7 +8,6 @@ use borrow.Author.Tests.{leb-true}
 use lib.Dec.{leb}
 use lib.ListN.{length, take, drop}
 use lib.Seq.{take-at}
-use Rattle.frames.specs.declared.front.Front.the-variants.{Whole}
 use Rattle.frames.specs.Frame.{Bytes, maxData, frameSize, Frame, encode, lengthAt, frameAt}
 use Rattle.frames.specs.Fronts.{frontOf, isWhole}
 use Rattle.frames.specs.Buffer.{wholeAt, dataAt, writable, writtenSize, writtenRoom, RoundTrip}
@@ -31,6 +30,10 @@ module _ (f : Frame) (room : List ℕ) (ok : writable f room ≡ true) where
   pub room-written : writtenRoom f room ≡ encode f ++ behind
   unfolding writtenRoom
   room-written = rw ok
+
+  -- the bytes of the frame are the first of the room
+  pub front-written : take (writtenSize f room) (writtenRoom f room) ≡ encode f
+  front-written = ap₂ (λ (n : ℕ) (s : List ℕ). take n s) size-written room-written ∙ take-at (encode f) behind (frameSize (length (f .payload))) (encode-size f)
 
   pub whole-written : wholeAt (writtenRoom f room) ≡ true
   unfolding wholeAt

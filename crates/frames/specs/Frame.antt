@@ -32,6 +32,10 @@ headerSize = 6
 abbrev pub frameSize : ℕ → ℕ
 frameSize L = 7 + L
 
+-- the bytes of the longest frame
+abbrev pub maxFrame : ℕ
+maxFrame = frameSize maxData
+
 -- "high byte first"
 abbrev pub number16 : ℕ → ℕ → ℕ
 number16 high low = high * 256 + low
@@ -49,6 +53,12 @@ pub record Frame : Type 0 where
   pub version : ℕ
   pub command : ℕ
   pub payload : List ℕ
+
+-- a frame all of whose fields are bytes
+pub record FrameBytes (f : Frame) : Type 0 where
+  pub version : f .version < 256
+  pub command : f .command < 256
+  pub payload : Bytes (f .payload)
 
 -- a frame's bytes before the sum
 unfoldable pub unsummed : Frame → List ℕ

@@ -23,7 +23,7 @@ pub fn data(s: &[u8]) -> &[u8]
     ensures { λ r. ⌜ now r ≡ dataAt (now (s .entry)) ⌝ }
 {
     if whole(s) {
-        let end = header::SIZE + header::length_at(s);
+        let end = header::SIZE + header::length_at(s, &s[..0], 0);
         &s[header::SIZE..end]
     } else {
         &s[..0]

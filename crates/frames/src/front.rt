@@ -1,8 +1,5 @@
 // What stands at the front of some bytes.
-use crate::MAX_DATA;
-use crate::OVERHEAD;
-use crate::header;
-use crate::sum::sum;
+use crate::look::front_at;
 ghost use mathlib.Core.Path.{_≡_};
 ghost use Rattle.frames.specs.Fronts.{frontOf};
 
@@ -15,42 +12,8 @@ pub enum Front {
     Open,
 }
 
-// Each byte is judged as soon as it is there, so that a front is dead as early as it can be.
 pub fn front_of(s: &[u8]) -> Front
     ensures { λ r. ⌜ r ≡ frontOf (now (s .entry)) ⌝ }
 {
-    let n = s.len();
-    if n < 1 {
-        return Front::Open;
-    }
-    if s[0] != header::HEAD_1 {
-        return Front::Dead;
-    }
-    if n < 2 {
-        return Front::Open;
-    }
-    if s[1] != header::HEAD_2 {
-        return Front::Dead;
-    }
-    if n < 5 {
-        return Front::Open;
-    }
-    if header::MAX_HIGH < s[4] {
-        return Front::Dead;
-    }
-    if n < header::SIZE {
-        return Front::Open;
-    }
-    let len = header::length_at(s);
-    if MAX_DATA < len {
-        return Front::Dead;
-    }
-    if n < OVERHEAD + len {
-        return Front::Open;
-    }
-    let last = header::SIZE + len;
-    if s[last] != sum(&s[..last]) {
-        return Front::Dead;
-    }
-    Front::Whole
+    front_at(s, &s[..0], 0, s.len())
 }

@@ -16,15 +16,14 @@ use Rattle.commands.specs.Search.{find}
 use Rattle.commands.specs.Table.{table, rowAt, placeOf as placeOfCommand, headerOf}
 use Rattle.commands.specs.Requests.{channelOf}
 use Rattle.commands.specs.Replies.{maxReply, replyState}
-use Rattle.transfer.specs.declared.phase.Phase.{Phase}
-use Rattle.transfer.specs.declared.phase.Phase.the-variants.{Idle, Asked, Told, Receiving, Done}
 use Rattle.transfer.specs.declared.board.Board.{Board}
 use Rattle.transfer.specs.declared.state.Transfer.{Transfer}
 use Rattle.transfer.specs.declared.state.Step.{Step}
-use Rattle.transfer.specs.Phases.{idle, receivingOrDone}
+use Rattle.transfer.specs.Phases.{receivingOrDone}
 use Rattle.transfer.specs.Transfers.{otherChannel}
 use Rattle.transfer.specs.FE.{rightCrc, answerFE}
 use Rattle.transfer.proofs.Choices.{neither}
+use Rattle.transfer.proofs.PhaseLaws.{image-busy, ending-image}
 use Rattle.session.specs.declared.session.Session.{Session}
 use Rattle.session.specs.declared.answer.Answer.{Answer}
 use Rattle.session.specs.Outcomes.{isAnswered}
@@ -77,14 +76,20 @@ module _ (t : Transfer) (channel : ℕ) (area : List ℕ) where
       go false true false ea eb ec = simp (ea, eb, ec)
       go false true true ea eb ec = simp (ea, eb, ec)
 
--- ---- the session's
+  -- FE's reply is the channel and a state
+  pub fe-short : answerFE t channel area .reply ≡ padded maxReply (replyState channel (getD (answerFE t channel area .reply) 1 0))
+  unfolding answerFE replyState
+  fe-short =
+      go (not (receivingOrDone (t .phase)) || otherChannel t channel) (eqb (t .stored) (t .image .announced)) (rightCrc t area) refl refl refl
+    where
+      go : (a b c : Bool) → (not (receivingOrDone (t .phase)) || otherChannel t channel) ≡ a → eqb (t .stored) (t .image .announced) ≡ b → rightCrc t area ≡ c
+          → answerFE t channel area .reply ≡ padded maxReply (replyState channel (getD (answerFE t channel area .reply) 1 0))
+      go true b c ea eb ec = simp ea
+      go false false c ea eb ec = simp (ea, eb)
+      go false true false ea eb ec = simp (ea, eb, ec)
+      go false true true ea eb ec = simp (ea, eb, ec)
 
-busy : (p : Phase) → receivingOrDone p ≡ true → idle p ≡ false
-busy Idle e = let z : _≡_ {A = ℕ} 0 1 = cc in absurd (omega arith)
-busy Asked e = refl
-busy Told e = refl
-busy Receiving e = refl
-busy Done e = refl
+-- ---- the session's
 
 fe-header : (f : FinishedFrame) (channel : ℕ) → IsEndRequest f channel → headerOfFrame f ≡ Right
 unfolding headerOf placeOfCommand rowAt table find
@@ -111,13 +116,25 @@ module _ (s : Session) (f : FinishedFrame) (channel : ℕ) (area : List ℕ) (e 
 
   backwards : Complete (s .transfer) channel area → (answered s f area .outcome ≡ isAnswered) × (answered s f area .reply ≡ padded maxReply (replyState channel 0))
   backwards c =
-      let own = lawful s e .listed (busy (s .transfer .phase) (c .open-or-accepted)) in
+      let own = lawful s e .listed (image-busy (s .transfer .phase) (ending-image (s .transfer .phase) (c .open-or-accepted))) in
       let place : placeFor s f ≡ placeOf (s .boards) (s .count) (s .transfer .channel) = ap (placeOf (s .boards) (s .count)) (r .for ∙ c .here) in
       let listed = lt-ltb (placeFor s f) (s .count) (omega arith) in
       let a = fe-routed ∙ ap (λ (x : Bool). cond x (stepped s (answerFE (s .transfer) channel area)) (unchanged 4 s)) listed in (
         ap (λ (x : Answer). x .outcome) a ∙ ap (λ (b : Bool). cond b 0 10) (fe-answered (s .transfer) channel area),
         ap (λ (x : Answer). x .reply) a ∙ complete-success (s .transfer) channel area c,
       )
+
+  -- an answered end request replies with the channel and a state
+  pub fe-reply : answered s f area .outcome ≡ isAnswered → answered s f area .reply ≡ padded maxReply (replyState channel (getD (answered s f area .reply) 1 0))
+  fe-reply z = go (ltb (placeFor s f) (s .count)) refl
+    where
+      go : (b : Bool) → ltb (placeFor s f) (s .count) ≡ b → answered s f area .reply ≡ padded maxReply (replyState channel (getD (answered s f area .reply) 1 0))
+      go true eb =
+          let a = ap (λ (x : Answer). x .reply) (fe-routed ∙ ap (λ (x : Bool). cond x (stepped s (answerFE (s .transfer) channel area)) (unchanged 4 s)) eb) in
+          a ∙ fe-short (s .transfer) channel area ∙ ap (λ (d : List ℕ). padded maxReply (replyState channel (getD d 1 0))) (sym a)
+      go false eb =
+          let a = fe-routed ∙ ap (λ (x : Bool). cond x (stepped s (answerFE (s .transfer) channel area)) (unchanged 4 s)) eb in
+          absurd (let y = sym (ap (λ (x : Answer). x .outcome) a) ∙ z in omega arith)
 
 pub end-request : EndRequest
 end-request s f channel area e size r = (forwards s f channel area e size r, backwards s f channel area e size r)

@@ -14,12 +14,9 @@ use Rattle.commands.specs.declared.request.RequestFA.{RequestFA}
 use Rattle.commands.specs.declared.request.RequestFB.{RequestFB}
 use Rattle.commands.specs.declared.request.RequestFC.{RequestFC}
 use Rattle.commands.specs.declared.request.RequestFD.{RequestFD}
-use Rattle.commands.specs.declared.table.Header.{Header}
-use Rattle.commands.specs.declared.table.Header.the-variants.{Unlisted, Wrong, Right}
 use Rattle.commands.specs.Requests.{channelOf, requestFA, requestFB, requestFC, requestFD, packetOf}
 use Rattle.commands.specs.Replies.{maxPacket}
-use Rattle.transfer.specs.declared.phase.Phase.{Phase}
-use Rattle.transfer.specs.declared.phase.Phase.the-variants.{Idle, Asked, Told, Receiving, Done}
+use Rattle.transfer.specs.declared.phase.Phase.the-variants.{Idle, Told, Done}
 use Rattle.transfer.specs.declared.board.Board.{Board}
 use Rattle.transfer.specs.declared.state.Transfer.{Transfer}
 use Rattle.transfer.specs.declared.state.Step.{Step}
@@ -32,37 +29,18 @@ use Rattle.transfer.specs.FC.{answerFC}
 use Rattle.transfer.specs.FD.{notReceivingHere, stateFD, answerFD, areaFD, writtenAt}
 use Rattle.transfer.specs.FE.{rightCrc, answerFE}
 use Rattle.transfer.proofs.Choices.{no-refusal, neither, of-both, of-each}
+use Rattle.transfer.proofs.PhaseLaws.{image-busy, started-image, ending-image}
 use Rattle.transfer.proofs.Packets.{taken-fits, taken-next, written-size}
 use Rattle.session.specs.declared.session.Session.{Session}
 use Rattle.session.specs.declared.answer.Answer.{Answer}
 use Rattle.session.specs.Boards.{pastBoard, placeOf}
 use Rattle.session.specs.Lawful.{unlawful, Lawful}
 use Rattle.session.specs.Answering.{unchanged, placeFor, stepOf, areaOf, routed, routedArea, byHeader, headerOfFrame, judged, judgedArea, answered, areaAfter}
+use Rattle.session.proofs.Headers.{by-header}
 use Rattle.session.proofs.Lawfuls.{lawful, lawful-accepted}
 
 false-true : {A : Type 0} → false ≡ true → A
 false-true e = let z : _≡_ {A = ℕ} 0 1 = cc in absurd (omega arith)
-
-image-busy : (p : Phase) → hasImage p ≡ true → idle p ≡ false
-image-busy Idle e = false-true e
-image-busy Asked e = refl
-image-busy Told e = refl
-image-busy Receiving e = refl
-image-busy Done e = refl
-
-started-image : (p : Phase) → toldOrReceiving p ≡ true → hasImage p ≡ true
-started-image Idle e = e
-started-image Asked e = e
-started-image Told e = refl
-started-image Receiving e = refl
-started-image Done e = refl
-
-ending-image : (p : Phase) → receivingOrDone p ≡ true → hasImage p ≡ true
-ending-image Idle e = e
-ending-image Asked e = e
-ending-image Told e = refl
-ending-image Receiving e = refl
-ending-image Done e = refl
 
 -- a session with another transfer
 abbrev pub withTransfer : Session → Transfer → Session
@@ -225,11 +203,6 @@ pub record Keeps (s : Session) (a : Answer) : Type 0 where
   pub same-count : a .session .count ≡ s .count
   pub same-area : a .session .opened ≡ s .opened
 
-header-of-both : {A : Type 0} (P : A → Type 0) (h : Header) (a b c : A) → P a → P b → P c → P (byHeader h a b c)
-header-of-both P Unlisted a b c p q r = p
-header-of-both P Wrong a b c p q r = q
-header-of-both P Right a b c p q r = r
-
 pub answer-keeps : (s : Session) (f : FinishedFrame) (area : List ℕ) → unlawful s ≡ false → Bytes (f .bytes) → Keeps s (answered s f area)
 unfolding answered judged routed
 answer-keeps s f area e bytes =
@@ -238,7 +211,7 @@ answer-keeps s f area e bytes =
     (λ _. of-each (Keeps s) (not (eqb (length area) (s .opened))) _ _ (λ _. same 6)
     (λ z.
     let size = eqb-true (length area) (s .opened) (not-false _ z) in
-    header-of-both (Keeps s) (headerOfFrame f) _ _ _ (same 2) (same 3)
+    by-header (Keeps s) (headerOfFrame f) _ _ _ (same 2) (same 3)
     (of-both (Keeps s) (eqb (f .command) 0xF9) _ _ (same 0)
     (of-each (Keeps s) (ltb (placeFor s f) (s .count)) _ _
     (λ here.
@@ -258,7 +231,7 @@ area-size s f area =
     let fits = lawful s e .announced in
     let r = requestFD (f .bytes) in
     let p = packetOf (f .length) (f .bytes) in
-    header-of-both Same (headerOfFrame f) _ _ _ refl refl
+    by-header Same (headerOfFrame f) _ _ _ refl refl
     (of-both Same (eqb (f .command) 0xF9) _ _ refl
     (of-both Same (ltb (placeFor s f) (s .count)) _ _
     (of-both Same (eqb (f .command) 0xFD) _ _

@@ -8,13 +8,12 @@ use borrow.Author.Tests.{ltb-true, ltb-false, lt-ltb, le-ltb, eqb-false, ne-eqb,
 use lib.Dec.{ltb, eqb}
 use Rattle.commands.specs.Replies.{maxPacket}
 use Rattle.transfer.specs.declared.board.Board.{Board}
-use Rattle.transfer.specs.declared.phase.Phase.{Phase}
-use Rattle.transfer.specs.declared.phase.Phase.the-variants.{Idle, Asked, Told, Receiving, Done}
 use Rattle.transfer.specs.declared.state.Transfer.{Transfer}
 use Rattle.transfer.specs.Phases.{idle, hasImage}
 use Rattle.transfer.specs.Transfers.{maxNext, Sound}
 use Rattle.transfer.specs.FA.{minPacket}
 use Rattle.transfer.proofs.Choices.{neither}
+use Rattle.transfer.proofs.PhaseLaws.{image-busy}
 use Rattle.session.specs.declared.session.Session.{Session}
 use Rattle.session.specs.Boards.{maxBoards, placeOf, badList}
 use Rattle.session.specs.Opening.{maxArea, badArea}
@@ -26,14 +25,6 @@ list-fits bs n e =
     let e1 = neither (ltb n 1) _ e in
     let e2 = neither (ltb maxBoards n) _ (e1 .1) in
     ltb-false maxBoards n (e2 .0)
-
--- a phase with an image is not idle
-image-not-idle : (p : Phase) → hasImage p ≡ true → idle p ≡ false
-image-not-idle Idle e = let z : _≡_ {A = ℕ} 0 1 = cc in absurd (omega arith)
-image-not-idle Asked e = refl
-image-not-idle Told e = refl
-image-not-idle Receiving e = refl
-image-not-idle Done e = refl
 
 unless : (a b : Bool) → cond a false b ≡ false → a ≡ false → b ≡ false
 unless true b e h = let z : _≡_ {A = ℕ} 0 1 = cc in absurd (omega arith)
@@ -86,7 +77,7 @@ lawful s e =
       listed = λ h. fields t (s .boards) (s .count) (e3 .1) h .listed;
       least-size = λ h. fields t (s .boards) (s .count) (e3 .1) h .least;
       most-size = λ h. fields t (s .boards) (s .count) (e3 .1) h .most;
-      some-image = λ k. fields t (s .boards) (s .count) (e3 .1) (image-not-idle (t .phase) k) .image k;
+      some-image = λ k. fields t (s .boards) (s .count) (e3 .1) (image-busy (t .phase) k) .image k;
     }
 
 both-false : (a b : Bool) → a ≡ false → b ≡ false → (a || b) ≡ false

@@ -1,5 +1,6 @@
 -- The laws that belong to no one function, by subject.
 mod Lists
+mod Headers
 pub mod Reports
 pub mod Lawfuls
 pub mod Kept

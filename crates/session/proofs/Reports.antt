@@ -12,6 +12,7 @@ use lib.Dec.{ltb}
 use Rattle.frames.specs.Frame.{encode, frameAt}
 use Rattle.frames.specs.Buffer.{writable, writtenSize, writtenRoom}
 use Rattle.frames.specs.Finished.{padded, zeros}
+use Rattle.frames.proofs.Padding.{drop-zeros}
 use Rattle.frames.proofs.Writes.{writable-fits}
 use Rattle.frames.proofs.RoundTrips.{size-written, room-written, frame-written}
 use Rattle.transfer.specs.declared.board.Board.{Board}
@@ -19,11 +20,6 @@ use Rattle.transfer.specs.FD.{writtenAt}
 use Rattle.session.specs.declared.session.Session.{Session}
 use Rattle.session.specs.Boards.{maxBoards, pastBoard}
 use Rattle.session.specs.Report.{boardBytes, boardsBytes, reportBytes, maxReport, reportFrame, reportSize, reportRoom}
-
-drop-zeros : (k n : ℕ) → drop k (zeros n) ≡ zeros (n - k)
-drop-zeros zero n = ap (λ (j : ℕ). zeros j) (let e : n ≡ n - 0 = omega arith in e)
-drop-zeros (suc k) zero = ap (λ (j : ℕ). zeros j) (let e : 0 ≡ 0 - suc k = omega arith in e)
-drop-zeros (suc k) (suc n) = drop-zeros k n ∙ ap (λ (j : ℕ). zeros j) (let e : n - k ≡ suc n - suc k = omega arith in e)
 
 -- written behind what stands in front of the zeros
 pub padded-more : (n : ℕ) (s p : List ℕ) → writtenAt (padded n s) (length s) p ≡ padded n (s ++ p)

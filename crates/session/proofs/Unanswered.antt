@@ -4,13 +4,11 @@ use mathlib.Core.Bool.{Bool, true, false, cond, not, _||_}
 use mathlib.Core.List.{List}
 use Prim.Native.Nat.{ℕ}
 use native.Mathlib.Omega.{arith}
-use borrow.Author.Tests.{eqb-true}
+use borrow.Author.Tests.{eqb-true, eq-eqb}
 use lib.Dec.{ltb, eqb}
 use lib.ListN.{length, getD, take}
 use Rattle.frames.specs.declared.finished.FinishedFrame.{FinishedFrame}
 use Rattle.frames.specs.Finished.{zeros}
-use Rattle.commands.specs.declared.table.Header.{Header}
-use Rattle.commands.specs.declared.table.Header.the-variants.{Unlisted, Wrong, Right}
 use Rattle.commands.specs.Requests.{channelOf, requestFA, requestFB, requestFC, requestFD, packetOf}
 use Rattle.commands.specs.Replies.{maxReply}
 use Rattle.transfer.specs.declared.board.Board.{Board}
@@ -30,6 +28,7 @@ use Rattle.session.specs.Outcomes.{isAnswered}
 use Rattle.session.specs.Boards.{pastBoard}
 use Rattle.session.specs.Lawful.{unlawful}
 use Rattle.session.specs.Answering.{unchanged, stepped, placeFor, stepOf, areaOf, routed, routedArea, byHeader, headerOfFrame, judged, judgedArea, answered, areaAfter}
+use Rattle.session.proofs.Headers.{by-header, by-headers}
 
 -- a step without an answer leaves the transfer and has no reply
 abbrev Still : Transfer → Step → Type 0
@@ -117,11 +116,6 @@ both-choices : (P : Answer → List ℕ → Type 0) (x : Bool) (a b : Answer) (m
 both-choices P true a b m n p q = p
 both-choices P false a b m n p q = q
 
-both-headers : (P : Answer → List ℕ → Type 0) (h : Header) (a b c : Answer) (l m n : List ℕ) → P a l → P b m → P c n → P (byHeader h a b c) (byHeader h l m n)
-both-headers P Unlisted a b c l m n p q r = p
-both-headers P Wrong a b c l m n p q r = q
-both-headers P Right a b c l m n p q r = r
-
 pub nothing-changed : (s : Session) (f : FinishedFrame) (area : List ℕ) → (answered s f area .outcome ≡ isAnswered → ⊥) → NothingChanged s area (answered s f area) (areaAfter s f area)
 unfolding answered areaAfter judged judgedArea routed routedArea
 nothing-changed s f area =
@@ -129,6 +123,22 @@ nothing-changed s f area =
     let same = unchanged-quiet s area in
     both-choices P (unlawful s) _ _ _ _ (same 9)
     (both-choices P (not (eqb (length area) (s .opened))) _ _ _ _ (same 6)
-    (both-headers P (headerOfFrame f) _ _ _ _ _ _ (same 2) (same 3)
+    (by-headers P (headerOfFrame f) _ _ _ _ _ _ (same 2) (same 3)
     (both-choices P (eqb (f .command) 0xF9) _ _ _ _ (same 0)
     (both-choices P (ltb (placeFor s f) (s .count)) _ _ _ _ (stepped-quiet s f (getD (s .boards) (placeFor s f) pastBoard) area) (same 4)))))
+
+-- ---- a lawful session with its own area refuses nothing as a call does
+
+-- not 5, 6 or 9
+abbrev pub NoRefusal : ℕ → Type 0
+NoRefusal n = (n ≡ 5 → ⊥) × ((n ≡ 6 → ⊥) × (n ≡ 9 → ⊥))
+
+pub answer-accepts : (s : Session) (f : FinishedFrame) (area : List ℕ) → unlawful s ≡ false → length area ≡ s .opened → NoRefusal (answered s f area .outcome)
+unfolding answered judged routed
+answer-accepts s f area e size =
+    let P : Answer → Type 0 = λ a. NoRefusal (a .outcome) in
+    rw (e, eq-eqb (length area) (s .opened) size)
+    (by-header P (headerOfFrame f) _ _ _ (λ z. omega arith, (λ z. omega arith, λ z. omega arith)) (λ z. omega arith, (λ z. omega arith, λ z. omega arith))
+    (of-both P (eqb (f .command) 0xF9) _ _ (λ z. omega arith, (λ z. omega arith, λ z. omega arith))
+    (of-both P (ltb (placeFor s f) (s .count)) _ _ (of-both NoRefusal (stepOf (s .transfer) f (getD (s .boards) (placeFor s f) pastBoard) area .answered) 0 10 (λ z. omega arith, (λ z. omega arith, λ z. omega arith)) (λ z. omega arith, (λ z. omega arith, λ z. omega arith)))
+    (λ z. omega arith, (λ z. omega arith, λ z. omega arith)))))

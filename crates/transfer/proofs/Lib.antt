@@ -1,5 +1,6 @@
 -- The laws that belong to no one function, by subject.
 pub mod Choices
+pub mod PhaseLaws
 pub mod Sames
 pub mod Packets
 pub mod Results

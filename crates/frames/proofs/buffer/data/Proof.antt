@@ -2,7 +2,7 @@
 use borrow.Author.Needs.{needs}
 use mathlib.Core.Path.{_≡_, sym, ap, _∙_}
 use mathlib.Core.Bool.{Bool, cond}
-use mathlib.Core.List.{List, []}
+use mathlib.Core.List.{List, [], append-nil}
 use Prim.Native.Nat.{ℕ, _+_, _-_, _≤_}
 use native.Mathlib.Omega.{arith}
 use lib.ListN.{length, take, drop}
@@ -24,8 +24,15 @@ module _ (c : tie.Then1) where
 whole-requires : tie.Need-whole-requires
 whole-requires c κs = search needs
 
+slice-aggregate-length-at : tie.Need-slice-aggregate-length-at
+slice-aggregate-length-at c = search needs
+
 length-at-requires : tie.Need-length-at-requires
-length-at-requires c κs = omega (arith, all-there c)
+length-at-requires c κs = omega (arith, all-there (c .before))
+
+-- L is what the header of s announces
+announced : (c : tie.After-length-at) → c .length-at .result ≡ lengthAt (s (c .before .before))
+announced c = c .length-at .ensures .0 ∙ ap lengthAt (append-nil (s (c .before .before)))
 
 add-end : tie.Need-add-end
 add-end c = search needs
@@ -37,7 +44,7 @@ part-result-start : tie.Need-part-result-start
 part-result-start c = search needs
 
 part-result-end : tie.Need-part-result-end
-part-result-end c = omega (arith, all-there (c .before))
+part-result-end c = omega (arith, all-there (c .before .before), announced c)
 
 slice-aggregate-result : tie.Need-slice-aggregate-result
 slice-aggregate-result c = search needs
@@ -45,8 +52,8 @@ slice-aggregate-result c = search needs
 returns : tie.Need-returns
 unfolding dataAt wholeAt frameAt
 returns c =
-    let o = c .before .before in
-    let n : headerSize + c .before .length-at .result - headerSize ≡ lengthAt (s o) = omega arith in
+    let o = c .before .before .before in
+    let n : headerSize + c .before .length-at .result - headerSize ≡ lengthAt (s o) = omega (arith, announced (c .before)) in
     ap (λ (k : ℕ). take k (drop headerSize (s o))) n
     ∙ sym (ap (λ (b : Bool). cond b (frameAt (s o) .payload) []) (sym (o .before .whole .ensures) ∙ o .if1 .taken))
 
@@ -61,6 +68,7 @@ data-spec =
     tie.close
     (tie.spec
     whole-requires
+    slice-aggregate-length-at
     length-at-requires
     add-end
     sub-result

@@ -1,0 +1,44 @@
+-- Opening: what succeeds can be run, what is refused meets 9. Assumes nothing.
+use mathlib.Core.Path.{_≡_, refl, sym, ap, _∙_}
+use mathlib.Core.Bool.{true, false}
+use mathlib.Core.List.{List}
+use Prim.Native.Nat.{ℕ}
+use native.Mathlib.Omega.{arith}
+use lib.ListN.{length}
+use Rattle.frames.specs.Frame.{maxFrame}
+use Rattle.transfer.specs.declared.board.Board.{Board}
+use Rattle.session.specs.declared.session.Session.{Session}
+use Rattle.session.specs.Outcomes.{isAnswered}
+use Rattle.session.specs.Boards.{maxBoards}
+use Rattle.session.specs.Opening.{noSession, freshSession, opened}
+use Rattle.session.proofs.Openings.{open-usable, open-refused, none-unlawful}
+use Rattle.controller.specs.Records.{unlawfulRecord, holdingNothing, freshRecord, noRecord, openedRecord}
+use Rattle.controller.specs.Demand3.{RunStart}
+use Rattle.controller.proofs.Refusals.{record-accepted}
+
+pub record Opens (bs : List Board) (n size : ℕ) : Type 0 where
+  -- "Opening that succeeds gives outcome 0 and the fresh record", from which a run can start on every area of that length
+  pub fresh : openedRecord bs n size .outcome ≡ isAnswered → openedRecord bs n size .next ≡ freshRecord bs n size
+  pub usable : openedRecord bs n size .outcome ≡ isAnswered → (area : List ℕ) → length area ≡ size → RunStart (openedRecord bs n size .next) area
+  -- "no usable record": all zero
+  pub zero : (openedRecord bs n size .outcome ≡ isAnswered → ⊥) → openedRecord bs n size .next ≡ noRecord
+
+-- "An unusable record is all zero and itself meets 9."
+pub none-refused : unlawfulRecord noRecord ≡ true
+unfolding unlawfulRecord
+none-refused = rw none-unlawful
+
+pub opens : (bs : List Board) (n size : ℕ) → length bs ≡ maxBoards → Opens bs n size
+unfolding openedRecord freshSession
+opens bs n size ten =
+    record {
+      fresh = λ z. ap holdingNothing (open-usable bs n size ten z .fresh);
+      usable = λ z area e.
+          let u = open-usable bs n size ten z in
+          record {
+            lawful = record-accepted (holdingNothing (opened bs n size .session)) (record { count = omega arith; session = u .accepted });
+            nothing-held = refl;
+            size = e ∙ sym (ap (λ (s : Session). s .opened) (u .fresh));
+          };
+      zero = λ z. ap holdingNothing (open-refused bs n size z);
+    }

@@ -1,0 +1,46 @@
+-- A lawful record, and a call that is not refused. Assumes nothing.
+use mathlib.Core.Path.{_≡_, refl, sym, ap, ap₂, _∙_}
+use mathlib.Core.Bool.{Bool, true, false, cond, not, _||_}
+use mathlib.Core.List.{List, []}
+use Prim.Native.Nat.{ℕ, _<_, _≤_}
+use native.Mathlib.Omega.{arith}
+use borrow.Author.Tests.{ltb-false, le-ltb, eqb-true, eq-eqb, not-false}
+use lib.Dec.{ltb, eqb}
+use Rattle.frames.specs.Frame.{maxFrame}
+use Rattle.transfer.proofs.Choices.{no-refusal, neither}
+use Rattle.session.specs.Lawful.{unlawful}
+use Rattle.controller.specs.declared.record.Record.{Record}
+use Rattle.controller.specs.Records.{unlawfulRecord}
+use Rattle.controller.specs.Calls.{minRoom, refusalOf}
+
+pub record LawfulRecord (r : Record) : Type 0 where
+  pub count : r .reader .count ≤ maxFrame
+  pub session : unlawful (r .session) ≡ false
+
+pub lawful-record : (r : Record) → unlawfulRecord r ≡ false → LawfulRecord r
+unfolding unlawfulRecord
+lawful-record r e =
+    let n = neither (ltb maxFrame (r .reader .count)) _ e in
+    record { count = ltb-false maxFrame (r .reader .count) (n .0); session = n .1 }
+
+pub record-accepted : (r : Record) → LawfulRecord r → unlawfulRecord r ≡ false
+unfolding unlawfulRecord
+record-accepted r l = ap₂ _||_ (le-ltb maxFrame (r .reader .count) (l .count)) (l .session)
+
+-- a call that is not refused, and the other way round
+pub record Accepted (r : Record) (room area : ℕ) : Type 0 where
+  pub lawful : unlawfulRecord r ≡ false
+  pub size : area ≡ r .session .opened
+  pub wide : minRoom ≤ room
+
+pub accepted-of : (r : Record) (room area : ℕ) → refusalOf r room area ≡ 0 → Accepted r room area
+unfolding refusalOf
+accepted-of r room area e =
+    let e1 = no-refusal (unlawfulRecord r) 9 _ (omega arith) e in
+    let e2 = no-refusal (not (eqb area (r .session .opened))) 6 _ (omega arith) (e1 .1) in
+    let e3 = no-refusal (ltb room minRoom) 5 0 (omega arith) (e2 .1) in
+    record { lawful = e1 .0; size = eqb-true area (r .session .opened) (not-false _ (e2 .0)); wide = ltb-false room minRoom (e3 .0) }
+
+pub accepts : (r : Record) (room area : ℕ) → Accepted r room area → refusalOf r room area ≡ 0
+unfolding refusalOf
+accepts r room area a = simp (a .lawful, eq-eqb area (r .session .opened) (a .size), le-ltb room minRoom (a .wide))

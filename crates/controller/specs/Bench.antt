@@ -1,0 +1,159 @@
+-- 01, "Frames from the bench", as one table: for each row the frames fed before, each of which must be answered, then what is done and
+-- everything that is to be seen of it. Assumes nothing.
+use mathlib.Core.Bool.{Bool, true, false, _&&_}
+use mathlib.Core.List.{List, [], _∷_, _++_}
+use Prim.Native.Nat.{ℕ}
+use lib.Dec.{eqb}
+use lib.ListN.{take, replicate}
+use Rattle.frames.specs.Finished.{zeros}
+use Rattle.transfer.specs.declared.board.Board.{Board}
+use Rattle.session.specs.Boards.{noBoard}
+use Rattle.controller.specs.declared.record.Record.{Record}
+use Rattle.controller.specs.Records.{openedRecord}
+use Rattle.controller.specs.Calls.{CallLeaves, fedCall}
+use Rattle.controller.specs.OutwardReport.{reported, roomReported}
+
+-- "Board: channel 10, soft 1.0.2, hard 1.0.0, PID all zero, permitted, area 65,536."
+abbrev pub board : Board
+board = record { channel = 10; soft = 1 ∷ 0 ∷ 2 ∷ []; hard = 1 ∷ 0 ∷ 0 ∷ []; pid = zeros 8; permit = true }
+
+abbrev pub areaSize : ℕ
+areaSize = 65536
+
+abbrev pub fresh : Record
+fresh = openedRecord (board ∷ replicate 9 noBoard) 1 areaSize .next
+
+-- feeding some bytes, or the outward F9
+pub data Action : Type 0 where
+  feeds : List ℕ → Action
+  reports : Action
+
+-- all that is seen of it; `earlier` says that every frame fed before was answered
+pub record Seen : Type 0 where
+  pub earlier : Bool
+  pub outcome : ℕ
+  pub reply : List ℕ
+  pub taken : ℕ
+  pub dropped : ℕ
+  pub command : ℕ
+  pub L : ℕ
+
+pub record Row : Type 0 where
+  pub before : List (List ℕ)
+  pub action : Action
+  pub wanted : Seen
+
+abbrev pub seen : Bool → Action → Record → List ℕ → Seen
+seen earlier (feeds bytes) r area =
+    let x = fedCall bytes r (zeros 33) area in
+    record {
+      earlier = earlier;
+      outcome = x .called .outcome;
+      reply = take (x .called .«reply_length») (x .room);
+      taken = x .called .taken;
+      dropped = x .called .dropped;
+      command = x .called .command;
+      L = x .called .«data_length»;
+    }
+seen earlier reports r area =
+    record {
+      earlier = earlier;
+      outcome = reported r (zeros 33) .outcome;
+      reply = take (reported r (zeros 33) .length) (roomReported r (zeros 33));
+      taken = 0;
+      dropped = 0;
+      command = 0;
+      L = 0;
+    }
+
+abbrev pub seenAfter : List (List ℕ) → Bool → Action → Record → List ℕ → Seen
+seenAfter [] earlier action r area = seen earlier action r area
+seenAfter (bytes ∷ more) earlier action r area =
+    let x = fedCall bytes r (zeros 33) area in
+    seenAfter more (earlier && eqb (x .called .outcome) 0) action (x .called .next) (x .area)
+
+abbrev pub got : List ℕ → Row → Seen
+got area row = seenAfter (row .before) true (row .action) fresh area
+
+-- "P1 FE request"; "P2 fresh record replies"
+abbrev pub p1 : List ℕ
+p1 = 0x55 ∷ 0xAA ∷ 0x00 ∷ 0xFE ∷ 0x00 ∷ 0x01 ∷ 0x0A ∷ 0x08 ∷ []
+
+abbrev pub p2 : List ℕ
+p2 = 0x55 ∷ 0xAA ∷ 0x00 ∷ 0xFE ∷ 0x00 ∷ 0x02 ∷ 0x0A ∷ 0x03 ∷ 0x0C ∷ []
+
+-- "P3 FA, Len1 256"; "P4 reply"
+abbrev pub p3 : List ℕ
+p3 = 0x55 ∷ 0xAA ∷ 0x00 ∷ 0xFA ∷ 0x00 ∷ 0x03 ∷ 0x0A ∷ 0x01 ∷ 0x00 ∷ 0x07 ∷ []
+
+abbrev pub p4 : List ℕ
+p4 = 0x55 ∷ 0xAA ∷ 0x00 ∷ 0xFA ∷ 0x00 ∷ 0x07 ∷ 0x0A ∷ 0x00 ∷ 0x01 ∷ 0x00 ∷ 0x02 ∷ 0x02 ∷ 0x00 ∷ 0x0F ∷ []
+
+-- "P5 Len1 15: flag 1, sum 10; Len1 16: flag 0"
+abbrev pub len15 : List ℕ
+len15 = 0x55 ∷ 0xAA ∷ 0x00 ∷ 0xFA ∷ 0x00 ∷ 0x03 ∷ 0x0A ∷ 0x00 ∷ 0x0F ∷ 0x15 ∷ []
+
+abbrev pub len16 : List ℕ
+len16 = 0x55 ∷ 0xAA ∷ 0x00 ∷ 0xFA ∷ 0x00 ∷ 0x03 ∷ 0x0A ∷ 0x00 ∷ 0x10 ∷ 0x16 ∷ []
+
+abbrev pub p5 : List ℕ
+p5 = 0x55 ∷ 0xAA ∷ 0x00 ∷ 0xFA ∷ 0x00 ∷ 0x07 ∷ 0x0A ∷ 0x01 ∷ 0x01 ∷ 0x00 ∷ 0x02 ∷ 0x02 ∷ 0x00 ∷ 0x10 ∷ []
+
+-- "P6 FC offset 0 ..; granted, the reply is the same bytes"
+abbrev pub p6 : List ℕ
+p6 = 0x55 ∷ 0xAA ∷ 0x00 ∷ 0xFC ∷ 0x00 ∷ 0x05 ∷ 0x0A ∷ 0x00 ∷ 0x00 ∷ 0x00 ∷ 0x00 ∷ 0x0A ∷ []
+
+-- "an FB accepted for 9 bytes": version 1.0.3, MD5 zero, CRC-32 CBF43926
+abbrev pub fb9 : List ℕ
+fb9 = 0x55 ∷ 0xAA ∷ 0x10 ∷ 0xFB ∷ 0x00 ∷ 0x24 ∷ 0x0A ∷ zeros 8 ++ (1 ∷ 0 ∷ 3 ∷ zeros 16 ++ (0 ∷ 0 ∷ 0 ∷ 9 ∷ 0xCB ∷ 0xF4 ∷ 0x39 ∷ 0x26 ∷ 0x63 ∷ []))
+
+-- "P7 .. packet 0, text 123456789 (CRC-16 29B1)"; "P8 reply .., when sent again state 01, sum 09"
+abbrev pub p7 : List ℕ
+p7 =
+    0x55 ∷ 0xAA ∷ 0x10 ∷ 0xFD ∷ 0x00 ∷ 0x10 ∷ 0x0A ∷ 0x00 ∷ 0x00 ∷ 0x00 ∷ 0x09 ∷ 0x29 ∷ 0xB1
+    ∷ 0x31 ∷ 0x32 ∷ 0x33 ∷ 0x34 ∷ 0x35 ∷ 0x36 ∷ 0x37 ∷ 0x38 ∷ 0x39 ∷ 0xE6 ∷ []
+
+abbrev pub p8 : List ℕ
+p8 = 0x55 ∷ 0xAA ∷ 0x00 ∷ 0xFD ∷ 0x00 ∷ 0x02 ∷ 0x0A ∷ 0x00 ∷ 0x08 ∷ []
+
+abbrev pub p8again : List ℕ
+p8again = 0x55 ∷ 0xAA ∷ 0x00 ∷ 0xFD ∷ 0x00 ∷ 0x02 ∷ 0x0A ∷ 0x01 ∷ 0x09 ∷ []
+
+-- the end request after all nine bytes: success
+abbrev pub success : List ℕ
+success = 0x55 ∷ 0xAA ∷ 0x00 ∷ 0xFE ∷ 0x00 ∷ 0x02 ∷ 0x0A ∷ 0x00 ∷ 0x09 ∷ []
+
+-- "P9 outward F9"
+abbrev pub p9 : List ℕ
+p9 = 0x55 ∷ 0xAA ∷ 0x00 ∷ 0xF9 ∷ 0x00 ∷ 0x08 ∷ 0x01 ∷ 0x0A ∷ 0x01 ∷ 0x00 ∷ 0x02 ∷ 0x01 ∷ 0x00 ∷ 0x00 ∷ 0x0F ∷ []
+
+-- "P10 stray 55 AA 00 FE 00 01 before P1"; "P11 stray 55 AA 00 56 00 00 before P1"
+abbrev pub stray10 : List ℕ
+stray10 = 0x55 ∷ 0xAA ∷ 0x00 ∷ 0xFE ∷ 0x00 ∷ 0x01 ∷ []
+
+abbrev pub stray11 : List ℕ
+stray11 = 0x55 ∷ 0xAA ∷ 0x00 ∷ 0x56 ∷ 0x00 ∷ 0x00 ∷ []
+
+-- before, action, outcome, reply, taken, dropped, command, L
+abbrev pub row : List (List ℕ) → Action → ℕ → List ℕ → ℕ → ℕ → ℕ → ℕ → Row
+row before action outcome reply taken dropped command L =
+    record {
+      before = before;
+      action = action;
+      wanted = record { earlier = true; outcome = outcome; reply = reply; taken = taken; dropped = dropped; command = command; L = L };
+    }
+
+abbrev pub table : List Row
+table =
+    row [] (feeds p1) 0 p2 8 0 0xFE 1
+    ∷ row [] (feeds p3) 0 p4 10 0 0xFA 3
+    ∷ row [] (feeds len15) 0 p5 10 0 0xFA 3
+    ∷ row [] (feeds len16) 0 p4 10 0 0xFA 3
+    ∷ row (p3 ∷ fb9 ∷ []) (feeds p6) 0 p6 12 0 0xFC 5
+    ∷ row (p3 ∷ fb9 ∷ p6 ∷ []) (feeds p7) 0 p8 23 0 0xFD 16
+    ∷ row (p3 ∷ fb9 ∷ p6 ∷ p7 ∷ []) (feeds p7) 0 p8again 23 0 0xFD 16
+    ∷ row (p3 ∷ fb9 ∷ p6 ∷ p7 ∷ []) (feeds p1) 0 success 8 0 0xFE 1
+    ∷ row [] reports 0 p9 0 0 0 0
+    ∷ row [] (feeds (stray10 ++ p1)) 0 p2 14 6 0xFE 1
+    ∷ row [] (feeds (stray11 ++ p1)) 2 [] 7 0 0x56 0
+    ∷ []

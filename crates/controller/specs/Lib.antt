@@ -1,0 +1,8 @@
+-- The definitions that the contracts of `controller` cite, and its claims.
+pub mod Records
+pub mod Calls
+pub mod OutwardReport
+pub mod Leaving
+pub mod EndRequest
+pub mod Demand3
+pub mod Bench

@@ -1,0 +1,33 @@
+-- `frames::hand_back::hold` meets its contract. Assumes nothing.
+use borrow.Author.Needs.{needs}
+use mathlib.Core.Path.{_≡_, sym, ap₂}
+use mathlib.Core.List.{List, _++_}
+use Prim.Native.Nat.{ℕ, _-_}
+use native.Mathlib.Omega.{arith}
+use lib.ListN.{length, length-append}
+use lib.Seq.{slice, length-slice}
+use Rattle.frames.specs.Frame.{maxFrame}
+use Rattle.frames.proofs.Padding.{padded-front}
+use Rattle.frames.proofs.hand_back.hold.Statement.{statement}
+use Rattle.frames.proofs.hand_back.hold.Tie as tie
+
+slice-aggregate-copy : tie.Need-slice-aggregate-copy
+slice-aggregate-copy c = search needs
+
+copy-requires : tie.Need-copy-requires
+copy-requires c κs = search needs
+
+sub-t10 : tie.Need-sub-t10
+sub-t10 c = search needs
+
+returns : tie.Need-returns
+returns c =
+    let o = c .before .before .before .before .before .args in
+    let all = o .a .now ++ o .b .now in
+    let s = slice (o .from) (o .to) all in
+    let size : length s ≡ o .to - o .from = length-slice (o .from) (o .to) all (omega (arith, length-append (o .a .now) (o .b .now))) in
+    let held = padded-front maxFrame (o .to - o .from) s (c .before .copy .last .1 .1 .1 .1 .0) size (c .before .copy .ensures) in
+    ap₂ {A = List ℕ} {B = ℕ} (λ h n. record { held = h; count = n }) held (sym size)
+
+pub hold-spec : {M : Type 1} → statement M
+hold-spec = tie.close (tie.spec slice-aggregate-copy copy-requires sub-t10 returns)

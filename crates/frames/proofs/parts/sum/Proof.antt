@@ -1,0 +1,47 @@
+-- `frames::parts::sum` meets its contract. Assumes nothing.
+use borrow.Author.Needs.{needs}
+use mathlib.Core.Path.{sym, ap, ap₂, _∙_}
+use Prim.Native.Nat.{ℕ, _+_, _-_, _%_}
+use lib.ListN.{length}
+use lib.Seq.{slice}
+use Rattle.frames.specs.Frame.{sumByte}
+use Rattle.frames.proofs.Slices.{slice-parts}
+use Rattle.frames.proofs.Sums.{sum-append}
+use Rattle.frames.proofs.parts.sum.Statement.{statement}
+use Rattle.frames.proofs.parts.sum.Tie as tie
+
+first-part-requires : tie.Need-first-part-requires
+first-part-requires c κs = search needs
+
+sum-requires : tie.Need-sum-requires
+sum-requires c κs = search needs
+
+second-part-requires : tie.Need-second-part-requires
+second-part-requires c κs = search needs
+
+sum-requires-2 : tie.Need-sum-requires-2
+sum-requires-2 c κs = search needs
+
+wrapping-add-u8-requires : tie.Need-wrapping-add-u8-requires
+wrapping-add-u8-requires c κs = search needs
+
+returns : tie.Need-returns
+returns c =
+    let o = c .before .before .before .before .before .before .before .args in
+    let first = c .before .before .before .sum .ensures ∙ ap sumByte (c .before .before .before .before .first-part .ensures) in
+    let second = c .before .sum2 .ensures ∙ ap sumByte (c .before .before .second-part .ensures) in
+    c .wrapping-add-u8 .ensures
+    ∙ ap₂ (λ (x y : ℕ). (x + y) % 256) first second
+    ∙ sum-append (slice (o .from) (o .to) (o .a .now)) (slice (o .from - length (o .a .now)) (o .to - length (o .a .now)) (o .b .now))
+    ∙ ap sumByte (sym (slice-parts (o .from) (o .to) (o .a .now) (o .b .now)))
+
+pub sum-spec : {M : Type 1} → statement M
+sum-spec =
+    tie.close
+    (tie.spec
+    first-part-requires
+    sum-requires
+    second-part-requires
+    sum-requires-2
+    wrapping-add-u8-requires
+    returns)

@@ -1,0 +1,136 @@
+-- `frames::scan::feeding` meets its contract. The loop's invariant: the call goes on from where the scan stands. Assumes nothing.
+use borrow.Author.Needs.{needs}
+use mathlib.Core.Path.{_≡_, sym, ap, _∙_}
+use mathlib.Core.Bool.{false≢true}
+use mathlib.Core.List.{List, _++_}
+use Prim.Native.Nat.{ℕ, _+_, _-_, _*_, _≤_, _<_}
+use native.Mathlib.Omega.{arith}
+use lib.ListN.{length, length-append}
+use lib.Seq.{slice}
+use Rattle.frames.specs.declared.front.Front.the-variants.{Whole, Dead, Open}
+use Rattle.frames.specs.Frame.{maxFrame}
+use Rattle.frames.specs.Fronts.{frontOf}
+use Rattle.frames.specs.LiveReading.{withoutFrame, feedingCall}
+use Rattle.frames.proofs.Positions.{feedingAt, feeding-start, dead-some, open-room, feeding-dead-at, feeding-open-at, feeding-whole-at, feeding-ends-at}
+use Rattle.frames.proofs.scan.feeding.Statement.{statement}
+use Rattle.frames.proofs.scan.feeding.Tie as tie
+
+abbrev Inv-loop : tie.InvT-loop
+Inv-loop a b held all from₀ to₀ from to =
+    (from ≤ to) × ((to ≤ length a + length b) × ((length a ≤ to) × ((to ≤ from + maxFrame) × (feedingCall b a 0 0 ≡ feedingAt (a ++ b) (length a) from to))))
+
+abbrev μ-loop : tie.MeasureT-loop
+μ-loop a b held all from₀ to₀ from to = 2 * (length a + length b) - (from + to)
+
+-- where the front is judged
+module _ (c : tie.After-front-at Inv-loop μ-loop) where
+  abbrev a : List ℕ
+  a = c .before .before .before .before .args .a .now
+
+  abbrev b : List ℕ
+  b = c .before .before .before .before .args .b .now
+
+  abbrev from : ℕ
+  from = c .before .loop .from
+
+  abbrev to : ℕ
+  to = c .before .loop .to
+
+  goes-on : feedingCall b a 0 0 ≡ feedingAt (a ++ b) (length a) from to
+  goes-on = c .before .loop .inv .1 .1 .1 .1
+
+  end : to ≤ length (a ++ b)
+  end = omega (arith, length-append a b)
+
+add-all : tie.Need-add-all Inv-loop μ-loop
+add-all c = omega arith
+
+loop-holds : tie.Need-loop-holds Inv-loop μ-loop
+loop-holds c =
+    let o = c .before .before .args in
+    (omega arith, (omega arith, (omega arith, (omega arith, feeding-start (o .a .now) (o .b .now)))))
+
+front-at-requires : tie.Need-front-at-requires Inv-loop μ-loop
+front-at-requires c κs = search needs
+
+enum-told : tie.Need-enum-told Inv-loop μ-loop
+enum-told c = search needs
+
+returns : tie.Need-returns Inv-loop μ-loop
+returns c =
+    let p = c .before .before in
+    let whole : frontOf (slice (from p) (to p) (a p ++ b p)) ≡ Whole = sym (p .front-at .ensures) ∙ c .enum-told .given .1 in
+    record {
+      stop = record { ordered = omega arith; within = omega arith; taken = omega arith; small = omega arith; whole = λ _. whole };
+      is = goes-on p ∙ feeding-whole-at (a p ++ b p) (length (a p)) (from p) (to p) whole;
+    }
+
+enum-told-2 : tie.Need-enum-told-2 Inv-loop μ-loop
+enum-told-2 c = search needs
+
+add-from : tie.Need-add-from Inv-loop μ-loop
+add-from c = omega arith
+
+loop-less : tie.Need-loop-less Inv-loop μ-loop
+loop-less c =
+    let p = c .before .before in
+    let dead = sym (p .front-at .ensures) ∙ c .enum-told2 .given .1 in
+    omega (arith, dead-some (a p ++ b p) (length (a p)) (from p) (to p) (omega arith) dead)
+
+loop-again : tie.Need-loop-again Inv-loop μ-loop
+loop-again c =
+    let p = c .before .before in
+    let dead : frontOf (slice (from p) (to p) (a p ++ b p)) ≡ Dead = sym (p .front-at .ensures) ∙ c .enum-told2 .given .1 in
+    let some = dead-some (a p ++ b p) (length (a p)) (from p) (to p) (omega arith) dead in
+    (omega arith, (omega arith, (omega arith, (omega arith, goes-on p ∙ feeding-dead-at (a p ++ b p) (length (a p)) (from p) (to p) some (end p) dead))))
+
+enum-told-3 : tie.Need-enum-told-3 Inv-loop μ-loop
+enum-told-3 c = search needs
+
+returns-2 : tie.Need-returns-2 Inv-loop μ-loop
+returns-2 c =
+    let p = c .before .before .before in
+    let undecided : frontOf (slice (from p) (to p) (a p ++ b p)) ≡ Open = sym (p .front-at .ensures) ∙ c .before .enum-told3 .given .1 in
+    let last : to p ≡ length (a p ++ b p) = omega (arith, length-append (a p) (b p)) in
+    record {
+      stop = record { ordered = omega arith; within = omega arith; taken = omega arith; small = omega arith; whole = λ e. absurd (false≢true e) };
+      is =
+          goes-on p
+          ∙ feeding-ends-at (a p ++ b p) (length (a p)) (from p) (to p) last undecided
+          ∙ ap (λ (k : ℕ). withoutFrame (k - length (a p)) (slice (from p) k (a p ++ b p)) (from p)) (c .if1 .taken);
+    }
+
+add-to : tie.Need-add-to Inv-loop μ-loop
+add-to c = omega arith
+
+loop-less-2 : tie.Need-loop-less-2 Inv-loop μ-loop
+loop-less-2 c = omega arith
+
+loop-again-2 : tie.Need-loop-again-2 Inv-loop μ-loop
+loop-again-2 c =
+    let p = c .before .before .before in
+    let undecided : frontOf (slice (from p) (to p) (a p ++ b p)) ≡ Open = sym (p .front-at .ensures) ∙ c .before .enum-told3 .given .1 in
+    let more : to p < length (a p ++ b p) = omega (arith, length-append (a p) (b p)) in
+    let room = open-room (a p ++ b p) (length (a p)) (from p) (to p) (omega arith) (end p) undecided in
+    (omega arith, (omega arith, (omega arith, (room, goes-on p ∙ feeding-open-at (a p ++ b p) (length (a p)) (from p) (to p) (omega arith) more (omega arith) undecided))))
+
+pub feeding-spec : {M : Type 1} → statement M
+feeding-spec =
+    tie.close
+    (tie.spec
+    Inv-loop
+    μ-loop
+    add-all
+    loop-holds
+    front-at-requires
+    enum-told
+    returns
+    enum-told-2
+    add-from
+    loop-less
+    loop-again
+    enum-told-3
+    returns-2
+    add-to
+    loop-less-2
+    loop-again-2)

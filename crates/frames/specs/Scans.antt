@@ -1,0 +1,37 @@
+-- Internal: what the private functions of live reading promise one another. A call goes over the held bytes a and the new bytes b as
+-- one sequence with two positions; what is held stands between them. No claim rests on this file. Assumes nothing.
+use mathlib.Core.Path.{_≡_}
+use mathlib.Core.Bool.{true, cond}
+use mathlib.Core.List.{List, _++_}
+use Prim.Native.Nat.{ℕ, _+_, _-_, _≤_}
+use lib.ListN.{length}
+use lib.Seq.{slice}
+use Rattle.frames.specs.declared.front.Front.the-variants.{Whole}
+use Rattle.frames.specs.declared.scan.Scan.{Scan}
+use Rattle.frames.specs.Frame.{maxFrame}
+use Rattle.frames.specs.Fronts.{frontOf}
+use Rattle.frames.specs.LiveReading.{CallResult, withFrame, withoutFrame}
+
+-- what is held where a scan stops
+abbrev pub heldAt : List ℕ → List ℕ → Scan → List ℕ
+heldAt a b s = slice (s .from) (s .to) (a ++ b)
+
+-- the positions of a scan that has stopped
+pub record Stop (a b : List ℕ) (s : Scan) : Type 0 where
+  pub ordered : s .from ≤ s .to
+  pub within : s .to ≤ length a + length b
+  pub taken : length a ≤ s .to
+  pub small : s .to ≤ s .from + maxFrame
+  pub whole : s .found ≡ true → frontOf (heldAt a b s) ≡ Whole
+
+-- the result of a call that stops there
+abbrev pub stoppedAt : List ℕ → List ℕ → Scan → CallResult
+stoppedAt a b s =
+    let whole = withFrame (s .to - length a) (heldAt a b s) (s .from) in
+    let none = withoutFrame (s .to - length a) (heldAt a b s) (s .from) in
+    cond (s .found) whole none
+
+-- a scan that stops where the call with this result does
+pub record Scanned (result : CallResult) (a b : List ℕ) (s : Scan) : Type 0 where
+  pub stop : Stop a b s
+  pub is : result ≡ stoppedAt a b s

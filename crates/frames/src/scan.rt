@@ -1,0 +1,85 @@
+// How far one call of live reading goes: over the held bytes a and the new bytes b, read as one sequence with two positions. What is
+// held stands from `from` to `to`; what is dropped is passed by `from`, what is taken by `to`.
+use crate::front::Front;
+use crate::look::front_at;
+ghost use Prim.Native.Nat.{_≤_};
+ghost use mathlib.Core.List.{[]};
+ghost use lib.ListN.{length};
+ghost use Rattle.frames.specs.Frame.{maxFrame};
+ghost use Rattle.frames.specs.LiveReading.{feedingCall, quietCall};
+ghost use Rattle.frames.specs.Scans.{Scanned};
+
+// Where a call stops, and whether a whole frame stands there.
+pub struct Scan {
+    pub from: usize,
+    pub to: usize,
+    pub found: bool,
+}
+
+// A feeding call: a dead front loses its first byte, an open one takes the next new byte.
+pub fn feeding(a: &[u8], b: &[u8]) -> Scan
+    requires { ⌜ length (now a) ≤ maxFrame ⌝ }
+    ensures { λ r. ⌜ Scanned (feedingCall (now (b .entry)) (now (a .entry)) 0 0) (now (a .entry)) (now (b .entry)) r ⌝ }
+{
+    let held = a.len();
+    let all = held + b.len();
+    let mut from = 0;
+    let mut to = held;
+    loop {
+        let f = front_at(a, b, from, to);
+        match f {
+            Front::Whole => {
+                return Scan {
+                    from,
+                    to,
+                    found: true,
+                };
+            }
+            Front::Dead => {
+                from += 1;
+            }
+            Front::Open => {
+                if to == all {
+                    return Scan {
+                        from,
+                        to: all,
+                        found: false,
+                    };
+                }
+                to += 1;
+            }
+        }
+    }
+}
+
+// A quiet call: any front that is not whole loses its first byte.
+pub fn quiet(a: &[u8]) -> Scan
+    requires { ⌜ length (now a) ≤ maxFrame ⌝ }
+    ensures { λ r. ⌜ Scanned (quietCall (now (a .entry)) 0) (now (a .entry)) [] r ⌝ }
+{
+    let mut at = 0;
+    let n = a.len();
+    while at < n {
+        let f = front_at(a, &a[..0], at, n);
+        match f {
+            Front::Whole => {
+                return Scan {
+                    from: at,
+                    to: n,
+                    found: true,
+                };
+            }
+            Front::Dead => {
+                at += 1;
+            }
+            Front::Open => {
+                at += 1;
+            }
+        }
+    }
+    Scan {
+        from: at,
+        to: n,
+        found: false,
+    }
+}
