@@ -1,0 +1,4 @@
+-- The laws that the functions' own files cite.
+pub mod Adding
+pub mod Fronts
+pub mod Turns

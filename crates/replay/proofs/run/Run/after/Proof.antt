@@ -1,0 +1,65 @@
+-- `replay::run::Run::after` meets its contract. Assumes nothing.
+use borrow.Author.Needs.{needs}
+use mathlib.Core.Path.{refl}
+use borrow.Author.Tests.{eq-eqb, ne-eqb}
+use Rattle.replay.proofs.run.Run.after.Statement.{statement}
+use Rattle.replay.proofs.run.Run.after.Tie as tie
+
+wrapping-add-usize-requires : tie.Need-wrapping-add-usize-requires
+wrapping-add-usize-requires c κs = search needs
+
+plus-requires : tie.Need-plus-requires
+plus-requires c κs = search needs
+
+plus-requires-2 : tie.Need-plus-requires-2
+plus-requires-2 c κs = search needs
+
+returns : tie.Need-returns
+returns c =
+    let place = c .before .before .before .before .plus in
+    record {
+      keeps = refl;
+      passes = simp (eq-eqb _ _ (c .if1 .taken), place .ensures);
+      drops = c .before .before .before .plus2 .ensures;
+      takes = c .before .before .before .before .before .wrapping-add-usize .ensures;
+      ends = refl;
+    }
+
+line-of-requires : tie.Need-line-of-requires
+line-of-requires c κs = search needs
+
+add-requires : tie.Need-add-requires
+add-requires c κs = search needs
+
+plus-requires-3 : tie.Need-plus-requires-3
+plus-requires-3 c κs = search needs
+
+plus-requires-4 : tie.Need-plus-requires-4
+plus-requires-4 c κs = search needs
+
+returns-2 : tie.Need-returns-2
+returns-2 c =
+    let tested = c .before .before .before .before .before in
+    let dropped = tested .before .before .before in
+    let place = dropped .before .plus in
+    record {
+      keeps = refl;
+      passes = simp (ne-eqb _ _ (tested .if1 .left), c .plus4 .ensures, c .before .plus3 .ensures, place .ensures);
+      drops = dropped .plus2 .ensures;
+      takes = dropped .before .before .wrapping-add-usize .ensures;
+      ends = refl;
+    }
+
+pub after-spec : {M : Type 1} → statement M
+after-spec =
+    tie.close
+    (tie.spec
+    wrapping-add-usize-requires
+    plus-requires
+    plus-requires-2
+    returns
+    line-of-requires
+    add-requires
+    plus-requires-3
+    plus-requires-4
+    returns-2)

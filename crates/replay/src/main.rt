@@ -1,0 +1,62 @@
+// Replays a capture of the line: reads it on standard input, and writes what the bench's controller makes of it.
+//
+// A line for each frame: the place of its first byte in the capture, its command, the outcome, and the reply or `-`. A last line with
+// all drops. So the capture 55 AA 00 FE 00 01 55 AA 00 FE 00 01 0A 08 gives
+//
+//     6 FE 0 55AA00FE00020A030C
+//     end dropped 6
+//
+// A failed read or write is told on standard error and ends the program without the last line. Its exit status is 0 all the same: a
+// Rattle program has no other.
+mod bench;
+mod line;
+mod output;
+mod run;
+
+use libc::STDERR_FILENO;
+use line::Line;
+use output::SIZE;
+use run::Run;
+
+fn main() {
+    let mut area = io::large_buffer();
+    let mut input = io::large_buffer();
+    let mut output = io::large_buffer();
+    let run = replay(&mut input, &mut output, &mut area);
+    report(run, &mut output);
+}
+
+// Turns until the run is over. A proved loop has to end, and nothing says that the input does: the turns are counted down from a
+// number that no run uses up.
+fn replay(input: &mut [u8], output: &mut [u8; SIZE], area: &mut [u8]) -> Run {
+    let mut run = Run::start(bench::open());
+    let mut turns = u64::MAX;
+    while turns > 0 {
+        if run.is_over() {
+            return run;
+        }
+        run = run.turn(&mut *input, &mut *output, &mut *area);
+        turns -= 1;
+    }
+    run
+}
+
+// What is left to say once the run is over. After a failed write this writes nothing more.
+fn report(run: Run, output: &mut [u8; SIZE]) {
+    if run.read_failed() {
+        complain(b"replay: cannot read standard input\n");
+        return;
+    }
+    let lines = run.lines;
+    let written = lines
+        .add(Line::end(run.dropped), &mut *output)
+        .flush(output);
+    if written.failed {
+        complain(b"replay: cannot write to standard output\n");
+    }
+}
+
+// Where standard error fails too there is nobody to tell.
+fn complain(message: &[u8]) {
+    io::write_all(STDERR_FILENO, message);
+}

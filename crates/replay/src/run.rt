@@ -1,0 +1,213 @@
+// The run over a capture, turn by turn.
+use crate::line::Line;
+use crate::output::Lines;
+use crate::output::SIZE;
+use crate::output::fit;
+use controller::call::Called;
+use controller::call::MIN_ROOM;
+use controller::record::Record;
+use frames::OVERHEAD;
+use libc::STDIN_FILENO;
+use session::outcome;
+ghost use mathlib.Core.Path.{_≡_};
+ghost use Prim.Native.Nat.{_≤_};
+ghost use lib.ListN.{take};
+ghost use Rattle.replay.specs.Texts.{maxLine, textOf, FrameText};
+ghost use Rattle.replay.specs.Runs.{sum, placeIn, quietTurn, Follows, Passes, ReadsOn, FeedsOrReads};
+
+// Where a run stands: it feeds what it reads; after the last byte it tells quiet until nothing is held.
+pub enum Stage {
+    Feeding,
+    Quiet,
+    Ended,
+    ReadFailed,
+}
+
+// What is kept from turn to turn. Of the input buffer the bytes from `at` to `end` are still to be fed.
+//
+// No call of a run is refused, so each takes, drops or reads something: the record is lawful from its opening on, the room is the least
+// that is asked for, and the area is of the opened length.
+pub struct Run {
+    pub record: Record,
+    pub stage: Stage,
+    pub at: usize,
+    pub end: usize,
+    // the capture's place of the first byte that is neither dropped nor of a frame that was read
+    pub place: u64,
+    pub dropped: u64,
+    pub lines: Lines,
+}
+
+impl Run {
+    pub fn start(record: Record) -> Run {
+        let lines = Lines {
+            waiting: 0,
+            failed: false,
+        };
+        Run {
+            record,
+            stage: Stage::Feeding,
+            at: 0,
+            end: 0,
+            place: 0,
+            dropped: 0,
+            lines,
+        }
+    }
+
+    // A failed write ends the run in any stage.
+    pub fn is_over(self) -> bool {
+        if self.lines.failed {
+            return true;
+        }
+        let stage = self.stage;
+        match stage {
+            Stage::Feeding => false,
+            Stage::Quiet => false,
+            Stage::Ended => true,
+            Stage::ReadFailed => true,
+        }
+    }
+
+    pub fn read_failed(self) -> bool {
+        let stage = self.stage;
+        match stage {
+            Stage::Feeding => false,
+            Stage::Quiet => false,
+            Stage::Ended => false,
+            Stage::ReadFailed => true,
+        }
+    }
+
+    // One call on the record, or one read of the input.
+    pub fn turn(self, input: &mut [u8], output: &mut [u8; SIZE], area: &mut [u8]) -> Run {
+        let stage = self.stage;
+        match stage {
+            Stage::Feeding => self.feed(input, output, area),
+            Stage::Quiet => self.quiet(output, area),
+            Stage::Ended => self,
+            Stage::ReadFailed => self,
+        }
+    }
+
+    // Feeds what is left in the input buffer, and fills it when nothing is.
+    fn feed(self, input: &mut [u8], output: &mut [u8; SIZE], area: &mut [u8]) -> Run
+        ensures { λ r. ⌜ FeedsOrReads self (now (input .entry)) (now (area .entry)) r (now (area .exit)) ⌝ }
+    {
+        let end = fit(self.end, input);
+        let at = self.at;
+        if at < end {
+            let mut room = [0u8; MIN_ROOM];
+            let record = self.record;
+            let c = record.feed(&input[at..end], &mut room, area);
+            return self.after(c, Stage::Feeding, &room, output);
+        }
+        self.read(input, output)
+    }
+
+    // The lines go out first: a read may wait long, and who reads them should not wait with it.
+    fn read(self, input: &mut [u8], output: &mut [u8; SIZE]) -> Run
+        ensures { λ r. ⌜ ReadsOn self r ⌝ }
+    {
+        let lines = self.lines;
+        let flushed = lines.flush(output);
+        if flushed.failed {
+            return self.filled(Stage::Feeding, 0, flushed);
+        }
+        let got = libc::read(STDIN_FILENO, input);
+        let end = io::count(got, input);
+        self.filled(stage_read(got), end, flushed)
+    }
+
+    fn quiet(self, output: &mut [u8; SIZE], area: &mut [u8]) -> Run
+        ensures { λ r. ⌜ Passes self (quietTurn self (now (area .entry))) r (now (area .exit)) ⌝ }
+    {
+        let mut room = [0u8; MIN_ROOM];
+        let record = self.record;
+        let c = record.quiet(&mut room, area);
+        self.after(c, stage_quiet(c.next), &room, output)
+    }
+
+    // The input buffer is new up to `end`.
+    fn filled(self, stage: Stage, end: usize, lines: Lines) -> Run
+        ensures { λ r. ⌜ ReadsOn self r ⌝ }
+    {
+        let record = self.record;
+        Run {
+            record,
+            stage,
+            at: 0,
+            end,
+            place: self.place,
+            dropped: self.dropped,
+            lines,
+        }
+    }
+
+    // What a call makes of the run: its drops are passed, then its frame, if it ended at one, gets a line and is passed.
+    fn after(self, c: Called, stage: Stage, room: &[u8; MIN_ROOM], output: &mut [u8; SIZE]) -> Run
+        ensures { λ r. ⌜ Follows self c r ⌝ }
+    {
+        let record = c.next;
+        let at = std::num::wrapping_add_usize(self.at, c.taken);
+        let passed = plus(self.place, c.dropped);
+        let dropped = plus(self.dropped, c.dropped);
+        let lines = self.lines;
+        if c.outcome == outcome::NO_FRAME {
+            return Run {
+                record,
+                stage,
+                at,
+                end: self.end,
+                place: passed,
+                dropped,
+                lines,
+            };
+        }
+        let line = self.line_of(c, room);
+        let added = lines.add(line, output);
+        Run {
+            record,
+            stage,
+            at,
+            end: self.end,
+            place: plus(plus(passed, OVERHEAD), c.data_length),
+            dropped,
+            lines: added,
+        }
+    }
+
+    // The line of the frame that a call ended at.
+    fn line_of(self, c: Called, room: &[u8; MIN_ROOM]) -> Line
+        ensures { λ r. ⌜ FrameText (placeIn self c) (c .command) (c .outcome) (take (c .«reply_length») (now (room .entry))) (textOf r) ⌝ }
+        ensures { λ r. ⌜ r .count ≤ maxLine ⌝ }
+    {
+        let place = plus(self.place, c.dropped);
+        let all: &[u8] = room;
+        let n = fit(c.reply_length, all);
+        Line::frame(place, c.command, c.outcome, &all[..n])
+    }
+}
+
+fn stage_read(got: isize) -> Stage {
+    if got < 0 {
+        return Stage::ReadFailed;
+    }
+    if got == 0 {
+        return Stage::Quiet;
+    }
+    Stage::Feeding
+}
+
+fn stage_quiet(record: Record) -> Stage {
+    if record.reader.count == 0 {
+        return Stage::Ended;
+    }
+    Stage::Quiet
+}
+
+fn plus(a: u64, b: usize) -> u64
+    ensures { λ r. ⌜ r ≡ sum a b ⌝ }
+{
+    std::num::wrapping_add_u64(a, b as u64)
+}

@@ -1,0 +1,177 @@
+//! The receiver: board list, reader and session behind the calls of 01.
+
+use crate::frame::{self, Frame};
+use crate::reader::Reader;
+use crate::session::{Board, BoardList, Command, Refusal, Session};
+
+/// "reply room below 33 bytes": the longest reply, FB's, has 7 + 26.
+pub const REPLY_ROOM: usize = 33;
+/// "the area's length, 1 to 1,048,576".
+pub const MAX_AREA: usize = 1_048_576;
+
+/// 01, "Outcome numbers".
+#[derive(Clone, Copy, Debug, PartialEq, Eq)]
+#[repr(u8)]
+pub enum Outcome {
+    Answered = 0,
+    NoFrame = 1,
+    UnknownCommand = 2,
+    WrongShape = 3,
+    UnlistedChannel = 4,
+    SmallRoom = 5,
+    OtherArea = 6,
+    BadAreaLength = 7,
+    BadList = 8,
+    BadRecord = 9,
+    OutOfTurn = 10,
+    SmallReportRoom = 11,
+}
+
+impl From<Refusal> for Outcome {
+    fn from(refusal: Refusal) -> Self {
+        match refusal {
+            Refusal::UnknownCommand => Outcome::UnknownCommand,
+            Refusal::WrongShape => Outcome::WrongShape,
+            Refusal::UnlistedChannel => Outcome::UnlistedChannel,
+            Refusal::OutOfTurn => Outcome::OutOfTurn,
+        }
+    }
+}
+
+/// What a call tells: "how many new bytes it took, how many bytes it dropped,
+/// and the frame's command and L (both 0 without a frame)".
+#[derive(Clone, Copy, Debug, PartialEq, Eq)]
+pub struct Report {
+    pub outcome: Outcome,
+    pub taken: usize,
+    pub dropped: usize,
+    pub command: u8,
+    pub length: usize,
+    pub reply: usize,
+}
+
+impl Report {
+    /// "on outcomes 5, 6 and 9 all four are 0".
+    fn refused(outcome: Outcome) -> Self {
+        Report { outcome, taken: 0, dropped: 0, command: 0, length: 0, reply: 0 }
+    }
+}
+
+/// The record.
+#[derive(Clone)]
+pub struct Receiver {
+    boards: BoardList,
+    area_len: usize,
+    reader: Reader,
+    pub(crate) session: Session,
+}
+
+impl Receiver {
+    /// Opening: "8, then 7". "A fresh record has its list and opened length, is
+    /// idle and otherwise zero".
+    pub fn open(boards: &[Board], area_len: usize) -> Result<Self, Outcome> {
+        let boards = BoardList::new(boards).ok_or(Outcome::BadList)?;
+        if area_len == 0 || area_len > MAX_AREA {
+            return Err(Outcome::BadAreaLength);
+        }
+        let (reader, session) = (Reader::default(), Session::default());
+        Ok(Receiver { boards, area_len, reader, session })
+    }
+
+    /// A feeding call: takes bytes of `new`, answers at most one frame.
+    pub fn feed(&mut self, new: &[u8], area: &mut [u8], room: &mut [u8]) -> Report {
+        if let Err(outcome) = self.check_call(area, room) {
+            return Report::refused(outcome);
+        }
+        let step = self.reader.feed(new);
+        let (outcome, reply) = match &step.frame {
+            None => (Outcome::NoFrame, 0),
+            Some(frame) => reply(&mut self.session, &self.boards, frame, area, room),
+        };
+        report(outcome, step.taken, step.dropped, step.frame, reply)
+    }
+
+    /// A quiet call: what is held will not grow any more.
+    pub fn quiet(&mut self, area: &mut [u8], room: &mut [u8]) -> Report {
+        if let Err(outcome) = self.check_call(area, room) {
+            return Report::refused(outcome);
+        }
+        let step = self.reader.quiet();
+        let (outcome, reply) = match &step.frame {
+            None => (Outcome::NoFrame, 0),
+            Some(frame) => reply(&mut self.session, &self.boards, frame, area, room),
+        };
+        report(outcome, step.taken, step.dropped, step.frame, reply)
+    }
+
+    /// Outward F9: "count n, then per board channel, soft version(3), hard
+    /// version(3), in list order."
+    pub fn report_boards(&self, room: &mut [u8]) -> (Outcome, usize) {
+        if !self.lawful() {
+            return (Outcome::BadRecord, 0);
+        }
+        let mut data = Vec::with_capacity(1 + 7 * self.boards.boards().len());
+        data.push(self.boards.boards().len() as u8);
+        for board in self.boards.boards() {
+            data.push(board.channel);
+            data.extend_from_slice(&board.soft);
+            data.extend_from_slice(&board.hard);
+        }
+        match frame::write(room, 0x00, Command::Report as u8, &data) {
+            0 => (Outcome::SmallReportRoom, 0),
+            written => (Outcome::Answered, written),
+        }
+    }
+
+    pub fn reader(&self) -> &Reader {
+        &self.reader
+    }
+
+    pub fn session(&self) -> &Session {
+        &self.session
+    }
+
+    /// "A record that outcome 9 does not refuse is lawful." List, opened length
+    /// and held count keep their rules by construction here.
+    pub fn lawful(&self) -> bool {
+        self.session.lawful(&self.boards, self.area_len)
+    }
+
+    /// "Calls check 9, 6, 5".
+    fn check_call(&self, area: &[u8], room: &[u8]) -> Result<(), Outcome> {
+        if !self.lawful() {
+            Err(Outcome::BadRecord)
+        } else if area.len() != self.area_len {
+            Err(Outcome::OtherArea)
+        } else if room.len() < REPLY_ROOM {
+            Err(Outcome::SmallRoom)
+        } else {
+            Ok(())
+        }
+    }
+}
+
+/// Outcome and reply length of a frame.
+fn reply(
+    session: &mut Session,
+    boards: &BoardList,
+    frame: &Frame<'_>,
+    area: &mut [u8],
+    room: &mut [u8],
+) -> (Outcome, usize) {
+    match session.answer(boards, frame, area, room) {
+        Ok(length) => (Outcome::Answered, length),
+        Err(refusal) => (refusal.into(), 0),
+    }
+}
+
+fn report(
+    outcome: Outcome,
+    taken: usize,
+    dropped: usize,
+    frame: Option<Frame<'_>>,
+    reply: usize,
+) -> Report {
+    let (command, length) = frame.map_or((0, 0), |frame| (frame.command, frame.data.len()));
+    Report { outcome, taken, dropped, command, length, reply }
+}
