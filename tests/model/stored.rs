@@ -140,12 +140,12 @@ fn counted() -> Image {
 }
 
 fn idle(s: &mut Stored) {
-    s.stray(&[0x00, 0xFF, 0x13, 0xAA], "noise without a 55");
     s.stray(
         &[0x55, 0xAA, 0x00, 0xFE, 0x00, 0x01],
         "P10's stray: with the next two bytes a wrong sum",
     );
     s.end(3, "P1, P2: FE on the fresh record, state 03 (wrong phase: idle)");
+    s.stray(&[0x00, 0xFF, 0x13, 0xAA], "noise without a 55");
     s.stray(&[0x55], "55 alone before a frame");
     s.end(3, "read after a lone 55");
     s.stray(&[0x55, 0xAA, 0x00, 0xFE, 0x03], "high length byte 03: no frame at five bytes");

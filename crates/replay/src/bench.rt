@@ -5,7 +5,7 @@ use transfer::board::Board;
 ghost use mathlib.Core.Path.{_≡_};
 ghost use Rattle.controller.specs.Bench.{fresh};
 
-// The length of the area: as much as an image may have, and as `io::large_buffer` gives.
+// The length of the area, which `io::large_buffer` gives.
 const AREA: usize = 65536;
 
 // The fresh record of the bench's one board.
