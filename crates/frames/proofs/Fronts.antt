@@ -2,7 +2,7 @@
 use mathlib.Core.Path.{_≡_, refl, sym, _∙_}
 use mathlib.Core.List.{List, []}
 use mathlib.Core.Bool.{Bool, true, false}
-use mathlib.Core.Logic.{_⊎_, inl, inr}
+use mathlib.Core.Logic.{_⊎_, inl, inr, ⊎-elim}
 use Prim.Native.Nat.{ℕ, _+_, _≤_, _<_}
 use native.Mathlib.Omega.{arith}
 use borrow.Author.Tests.{le-leb, lt-leb, eq-eqb, ne-eqb, leb-true, leb-false, eqb-true}
@@ -51,6 +51,11 @@ test-is-open need have passes next e = go (leb need have) passes refl refl
     go false y p q = inl (leb-false need have p)
     go true true p q = inr (q, sym (test-passes need have passes next (leb-true need have p) q) ∙ e)
     go true false p q = absurd (dead-open (sym (test-fails need have passes next (leb-true need have p) q) ∙ e))
+
+-- so one whose bytes are there was passed
+pub test-open-passed : (need have : ℕ) (passes : Bool) (next : Front) → need ≤ have → test need have passes next ≡ Open → (passes ≡ true) × (next ≡ Open)
+test-open-passed need have passes next h e =
+    ⊎-elim (λ k. absurd {A = (passes ≡ true) × (next ≡ Open)} (omega arith)) (λ t. t) (test-is-open need have passes next e)
 
 -- ---- the tests in a row, each with those after it
 
@@ -163,3 +168,36 @@ passed-whole s p =
     let l = p .small in
     let k = p .there in
     whole-sum s (p .first) (p .second) (omega arith) (omega arith) l k (p .sum)
+
+-- the tests that an open front has passed, each where its bytes are there
+module _ (s : List ℕ) (e : frontOf s ≡ Open) where
+  open-past-head1 : 1 ≤ length s → (eqb (getD s 0 0) head1 ≡ true) × (fromHead2 s ≡ Open)
+  unfolding frontOf
+  open-past-head1 h = test-open-passed 1 (length s) (eqb (getD s 0 0) head1) (fromHead2 s) h e
+
+  open-past-head2 : 2 ≤ length s → (eqb (getD s 1 0) head2 ≡ true) × (fromHigh s ≡ Open)
+  open-past-head2 h = test-open-passed 2 (length s) (eqb (getD s 1 0) head2) (fromHigh s) h (open-past-head1 (omega arith) .1)
+
+  open-past-high : 5 ≤ length s → (leb (getD s 4 0) 2 ≡ true) × (fromLength s ≡ Open)
+  open-past-high h = test-open-passed 5 (length s) (leb (getD s 4 0) 2) (fromLength s) h (open-past-head2 (omega arith) .1)
+
+  open-past-length : 6 ≤ length s → (leb (lengthAt s) maxData ≡ true) × (fromSum s ≡ Open)
+  open-past-length h = test-open-passed 6 (length s) (leb (lengthAt s) maxData) (fromSum s) h (open-past-high (omega arith) .1)
+
+  pub open-first : 1 ≤ length s → getD s 0 0 ≡ head1
+  open-first h = eqb-true (getD s 0 0) head1 (open-past-head1 h .0)
+
+  pub open-second : 2 ≤ length s → getD s 1 0 ≡ head2
+  open-second h = eqb-true (getD s 1 0) head2 (open-past-head2 h .0)
+
+  pub open-high-small : 5 ≤ length s → getD s 4 0 ≤ 2
+  open-high-small h = leb-true (getD s 4 0) 2 (open-past-high h .0)
+
+  pub open-length-small : 6 ≤ length s → lengthAt s ≤ maxData
+  open-length-small h = leb-true (lengthAt s) maxData (open-past-length h .0)
+
+  -- and the sum is not there yet
+  pub open-unsummed : 6 ≤ length s → length s < frameSize (lengthAt s)
+  open-unsummed h =
+      ⊎-elim (λ k. k) (λ t. absurd {A = length s < frameSize (lengthAt s)} (whole-open (t .1)))
+      (test-is-open (frameSize (lengthAt s)) (length s) (sumRight s) Whole (open-past-length h .1))

@@ -14,6 +14,7 @@ mod Completions
 pub mod FrontMeanings
 pub mod RoundTrips
 pub mod Readings
+mod Waits
 mod Turns
 mod Positions
 mod Steps

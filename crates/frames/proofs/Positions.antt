@@ -4,7 +4,7 @@ use mathlib.Core.Path.{_≡_, refl, sym, ap, ap₂, _∙_}
 use mathlib.Core.Bool.{false}
 use mathlib.Core.List.{List, [], _++_}
 use mathlib.Core.Logic.{⊎-elim}
-use Prim.Native.Nat.{ℕ, suc, _+_, _-_, _≤_, _<_}
+use Prim.Native.Nat.{ℕ, zero, suc, _+_, _-_, _≤_, _<_}
 use native.Mathlib.Nat.{eq-or-lt-of-le}
 use native.Mathlib.Numerals.{add-one}
 use native.Mathlib.Omega.{arith}
@@ -66,6 +66,25 @@ module _ (v : List ℕ) (n from to : ℕ) where
   feeding-ends-at k e =
       ap (λ (l : List ℕ). feedingCall l (slice from to v) from (to - n)) (ap (λ (i : ℕ). drop i v) k ∙ drop-length v)
       ∙ feeding-ends (slice from to v) from (to - n) e
+
+-- k bytes at once, where the front stays open up to the last of them
+pub feeding-waits-at :
+    (v : List ℕ) (n from to k : ℕ) → from ≤ to → to + k ≤ length v → n ≤ to → ((t : ℕ) → to ≤ t → t < to + k → frontOf (slice from t v) ≡ Open)
+    → feedingAt v n from to ≡ feedingAt v n from (to + k)
+feeding-waits-at v n from to zero h j l stays = let e : to ≡ to + 0 = omega arith in ap (feedingAt v n from) e
+feeding-waits-at v n from to (suc k) h j l stays =
+    let e : to + k + 1 ≡ to + suc k = omega arith in
+    feeding-waits-at v n from to k h (omega arith) l (λ t i m. stays t i (omega arith))
+    ∙ feeding-open-at v n from (to + k) (omega arith) (omega arith) (omega arith) (stays (to + k) (omega arith) (omega arith))
+    ∙ ap (feedingAt v n from) e
+
+-- they have room
+pub waits-room :
+    (v : List ℕ) (n from to k : ℕ) → from ≤ to → 0 < k → to + k ≤ length v → ((t : ℕ) → to ≤ t → t < to + k → frontOf (slice from t v) ≡ Open)
+    → to + k ≤ from + maxFrame
+waits-room v n from to k h some j stays =
+    let last = to + k - 1 in
+    omega (arith, open-room v n from last (omega arith) (omega arith) (stays last (omega arith) (omega arith)))
 
 -- ---- a quiet call: all bytes are held, and stand from `from` on
 

@@ -3,10 +3,10 @@
 use mathlib.Core.Path.{_≡_}
 use mathlib.Core.Bool.{true, cond}
 use mathlib.Core.List.{List, _++_}
-use Prim.Native.Nat.{ℕ, _+_, _-_, _≤_}
+use Prim.Native.Nat.{ℕ, _+_, _-_, _≤_, _<_}
 use lib.ListN.{length}
 use lib.Seq.{slice}
-use Rattle.frames.specs.declared.front.Front.the-variants.{Whole}
+use Rattle.frames.specs.declared.front.Front.the-variants.{Whole, Open}
 use Rattle.frames.specs.declared.scan.Scan.{Scan}
 use Rattle.frames.specs.Frame.{maxFrame}
 use Rattle.frames.specs.Fronts.{frontOf}
@@ -35,3 +35,8 @@ stoppedAt a b s =
 pub record Scanned (result : CallResult) (a b : List ℕ) (s : Scan) : Type 0 where
   pub stop : Stop a b s
   pub is : result ≡ stoppedAt a b s
+
+-- The front of v from `from` on, open at `to`, stays open until `more` bytes more are there.
+pub record Missing (v : List ℕ) (from to more : ℕ) : Type 0 where
+  pub some : 0 < more
+  pub undecided : (t : ℕ) → to ≤ t → t < to + more → t ≤ length v → frontOf (slice from t v) ≡ Open

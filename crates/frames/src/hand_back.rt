@@ -21,7 +21,7 @@ ghost use Rattle.frames.specs.LiveReading.{noFrame, holding, handedBack,
 ghost use Rattle.frames.specs.Scans.{Stop, stoppedAt};
 
 // The bytes from `from` to `to` stay held; a frame at their front is used up.
-pub fn stopped(a: &[u8], b: &[u8], s: Scan) -> Fed
+pub(crate) fn stopped(a: &[u8], b: &[u8], s: Scan) -> Fed
     requires { ⌜ Stop (now a) (now b) s ⌝ }
     ensures { λ r. ⌜ r ≡ handedBack (stoppedAt (now (a .entry)) (now (b .entry)) s) ⌝ }
 {
@@ -52,7 +52,7 @@ pub fn stopped(a: &[u8], b: &[u8], s: Scan) -> Fed
 }
 
 // A reader that cannot be fed goes back as it came.
-pub fn refused(reader: Reader) -> Fed
+pub(crate) fn refused(reader: Reader) -> Fed
     ensures { λ r. ⌜ r ≡ refused reader ⌝ }
 {
     let frame = no_frame();

@@ -24,7 +24,7 @@ pub const COMMAND: usize = 3;
 pub const MAX_HIGH: u8 = (MAX_DATA / 256) as u8;
 
 // L, as the header that begins at `from` of a followed by b announces it.
-pub fn length_at(a: &[u8], b: &[u8], from: usize) -> usize
+pub(crate) fn length_at(a: &[u8], b: &[u8], from: usize) -> usize
     requires { ⌜ from + headerSize ≤ length (now a) + length (now b) ⌝ }
     ensures { λ r. ⌜ (r ≡ lengthAt (drop from (now (a .entry) ++ now (b .entry)))) × (r < 65536) ⌝ }
 {
@@ -32,7 +32,7 @@ pub fn length_at(a: &[u8], b: &[u8], from: usize) -> usize
 }
 
 // Writes the header of a frame of n data bytes to the front of room.
-pub fn write(version: u8, command: u8, n: usize, room: &mut [u8])
+pub(crate) fn write(version: u8, command: u8, n: usize, room: &mut [u8])
     requires { ⌜ (n ≤ maxData) × (headerSize ≤ length (now room)) ⌝ }
     ensures { λ _. ⌜ now (room .exit) ≡ sets (now (room .entry)) 0 (head1 ∷ head2 ∷ version ∷ command ∷ n / 256 ∷ n % 256 ∷ []) ⌝ }
 {

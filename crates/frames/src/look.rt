@@ -9,11 +9,13 @@ ghost use mathlib.Core.List.{_++_};
 ghost use Prim.Native.Nat.{_+_, _≤_};
 ghost use lib.ListN.{length};
 ghost use lib.Seq.{slice};
+ghost use Rattle.frames.specs.declared.front.Front.the-variants.{Open};
 ghost use Rattle.frames.specs.Fronts.{frontOf};
+ghost use Rattle.frames.specs.Scans.{Missing};
 
 // What stands at the front of the bytes from `from` to `to`. Each byte is judged as soon as it is there, so that a front is dead as
 // early as it can be.
-pub fn front_at(a: &[u8], b: &[u8], from: usize, to: usize) -> Front
+pub(crate) fn front_at(a: &[u8], b: &[u8], from: usize, to: usize) -> Front
     requires { ⌜ (from ≤ to) × (to ≤ length (now a) + length (now b)) ⌝ }
     ensures { λ r. ⌜ r ≡ frontOf (slice from to (now (a .entry) ++ now (b .entry))) ⌝ }
 {
@@ -51,4 +53,25 @@ pub fn front_at(a: &[u8], b: &[u8], from: usize, to: usize) -> Front
         return Front::Dead;
     }
     Front::Whole
+}
+
+// How many bytes the next test of an open front is short of. No test comes before they are there: whoever feeds may take them at once.
+pub(crate) fn missing(a: &[u8], b: &[u8], from: usize, to: usize) -> usize
+    requires { ⌜ (from ≤ to) × ((to ≤ length (now a) + length (now b)) × (frontOf (slice from to (now a ++ now b)) ≡ Open)) ⌝ }
+    ensures { λ r. ⌜ Missing (now (a .entry) ++ now (b .entry)) from to r ⌝ }
+{
+    let n = to - from;
+    if n < 1 {
+        return 1 - n;
+    }
+    if n < 2 {
+        return 2 - n;
+    }
+    if n < 5 {
+        return 5 - n;
+    }
+    if n < header::SIZE {
+        return header::SIZE - n;
+    }
+    OVERHEAD + header::length_at(a, b, from) - n
 }

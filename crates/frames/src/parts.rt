@@ -8,7 +8,7 @@ ghost use lib.Seq.{slice};
 ghost use Rattle.frames.specs.Frame.{sumByte};
 
 // The byte at i.
-pub fn byte(a: &[u8], b: &[u8], i: usize) -> u8
+pub(crate) fn byte(a: &[u8], b: &[u8], i: usize) -> u8
     requires { ⌜ i < length (now a) + length (now b) ⌝ }
     ensures { λ r. ⌜ r ≡ getD (now (a .entry) ++ now (b .entry)) i 0 ⌝ }
 {
@@ -17,7 +17,7 @@ pub fn byte(a: &[u8], b: &[u8], i: usize) -> u8
 }
 
 // The sum byte of the bytes from `from` to `to`.
-pub fn sum(a: &[u8], b: &[u8], from: usize, to: usize) -> u8
+pub(crate) fn sum(a: &[u8], b: &[u8], from: usize, to: usize) -> u8
     requires { ⌜ (from ≤ to) × (to ≤ length (now a) + length (now b)) ⌝ }
     ensures { λ r. ⌜ r ≡ sumByte (slice from to (now (a .entry) ++ now (b .entry))) ⌝ }
 {
@@ -28,7 +28,7 @@ pub fn sum(a: &[u8], b: &[u8], from: usize, to: usize) -> u8
 }
 
 // Copies the bytes from `from` to `to` to the front of out; bytes past them stay.
-pub fn copy(a: &[u8], b: &[u8], from: usize, to: usize, out: &mut [u8])
+pub(crate) fn copy(a: &[u8], b: &[u8], from: usize, to: usize, out: &mut [u8])
     requires { ⌜ (from ≤ to) × ((to ≤ length (now a) + length (now b)) × (to - from ≤ length (now out))) ⌝ }
     ensures { λ _. ⌜ now (out .exit) ≡ slice from to (now (a .entry) ++ now (b .entry)) ++ drop (to - from) (now (out .entry)) ⌝ }
 {
@@ -59,7 +59,7 @@ fn second_part(b: &[u8], n: usize, from: usize, to: usize) -> &[u8]
 }
 
 // The smaller of i and n.
-fn clip(i: usize, n: usize) -> usize
+pub(crate) fn clip(i: usize, n: usize) -> usize
     ensures { λ r. ⌜ r ≡ i - (i - n) ⌝ }
 {
     if i < n { i } else { n }

@@ -2,6 +2,8 @@
 // held stands from `from` to `to`; what is dropped is passed by `from`, what is taken by `to`.
 use crate::front::Front;
 use crate::look::front_at;
+use crate::look::missing;
+use crate::parts::clip;
 ghost use Prim.Native.Nat.{_≤_};
 ghost use mathlib.Core.List.{[]};
 ghost use lib.ListN.{length};
@@ -16,8 +18,8 @@ pub struct Scan {
     pub found: bool,
 }
 
-// A feeding call: a dead front loses its first byte, an open one takes the next new byte.
-pub fn feeding(a: &[u8], b: &[u8]) -> Scan
+// A feeding call: a dead front loses its first byte, an open one takes new bytes up to its next test.
+pub(crate) fn feeding(a: &[u8], b: &[u8]) -> Scan
     requires { ⌜ length (now a) ≤ maxFrame ⌝ }
     ensures { λ r. ⌜ Scanned (feedingCall (now (b .entry)) (now (a .entry)) 0 0) (now (a .entry)) (now (b .entry)) r ⌝ }
 {
@@ -46,14 +48,14 @@ pub fn feeding(a: &[u8], b: &[u8]) -> Scan
                         found: false,
                     };
                 }
-                to += 1;
+                to += clip(missing(a, b, from, to), all - to);
             }
         }
     }
 }
 
 // A quiet call: any front that is not whole loses its first byte.
-pub fn quiet(a: &[u8]) -> Scan
+pub(crate) fn quiet(a: &[u8]) -> Scan
     requires { ⌜ length (now a) ≤ maxFrame ⌝ }
     ensures { λ r. ⌜ Scanned (quietCall (now (a .entry)) 0) (now (a .entry)) [] r ⌝ }
 {

@@ -3,7 +3,7 @@ ghost use mathlib.Core.Path.{_≡_};
 ghost use Rattle.frames.specs.Frame.{sumByte};
 
 // All bytes of s, added modulo 256.
-pub fn sum(s: &[u8]) -> u8
+pub(crate) fn sum(s: &[u8]) -> u8
     ensures { λ r. ⌜ r ≡ sumByte (now (s .entry)) ⌝ }
 {
     let mut total: u8 = 0;

@@ -1,3 +1,4 @@
 -- The definitions that the contracts of `replay` cite.
 pub mod Texts
+pub mod Outputs
 pub mod Runs

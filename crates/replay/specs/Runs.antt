@@ -2,16 +2,44 @@
 -- 0)". That is the number of bytes of earlier frames plus all drops up to and including its call. Which bytes a read puts into the
 -- input buffer no definition can say. Assumes nothing.
 use mathlib.Core.Path.{_≡_}
-use mathlib.Core.Bool.{cond}
+use mathlib.Core.Bool.{Bool, true, false, cond, _||_}
 use mathlib.Core.List.{List}
 use Prim.Native.Nat.{ℕ, _+_, _%_, _^_, _≤_, _<_, min}
 use lib.Dec.{eqb}
-use lib.ListN.{length, replicate}
+use lib.ListN.{length, take, replicate}
 use lib.Seq.{slice}
 use Rattle.session.specs.Outcomes.{noFrame}
 use Rattle.controller.specs.declared.call.Called.{Called}
 use Rattle.controller.specs.Calls.{CallLeaves, minRoom, fedCall, quietedCall}
+use Rattle.controller.specs.declared.record.Record.{Record}
+use Rattle.replay.specs.declared.output.Lines.{Lines}
 use Rattle.replay.specs.declared.run.Run.{Run}
+use Rattle.replay.specs.declared.run.Stage.{Stage}
+use Rattle.replay.specs.declared.run.Stage.the-variants.{Feeding, Quiet, Ended, ReadFailed}
+use Rattle.replay.specs.Texts.{FrameText}
+use Rattle.replay.specs.Outputs.{Flushed, LineAdded}
+
+-- nothing is to be done in this stage any more
+abbrev pub over : Stage → Bool
+over Feeding = false
+over Quiet = false
+over Ended = true
+over ReadFailed = true
+
+abbrev pub readFailed : Stage → Bool
+readFailed Feeding = false
+readFailed Quiet = false
+readFailed Ended = false
+readFailed ReadFailed = true
+
+-- the run ends after a failed write, a failed read, or once quiet leaves nothing held
+abbrev pub isOver : Run → Bool
+isOver run = run .lines .failed || over (run .stage)
+
+-- "opens this board .. reads a capture": nothing is read, dropped or written yet
+abbrev pub startOf : Record → Run
+startOf r =
+    record { «record» = r; stage = Feeding; at = 0; end = 0; place = 0; dropped = 0; lines = record { waiting = 0; failed = false } }
 
 -- the program's counts have 64 bits, more than a capture can fill
 abbrev pub sum : ℕ → ℕ → ℕ
@@ -25,39 +53,85 @@ placeIn run c = sum (run .place) (c .dropped)
 abbrev pub placeAfter : Run → Called → ℕ
 placeAfter run c = cond (eqb (c .outcome) noFrame) (placeIn run c) (sum (sum (placeIn run c) 7) (c .«data_length»))
 
+-- the line of the frame that a call ended at is added; `room` holds its reply
+pub record FrameAdded (place : ℕ) (c : Called) (room : List ℕ) (l : Lines) (buffer : List ℕ) (r : Lines) (after : List ℕ) : Type 0 where
+  pub text : List ℕ
+  pub says : FrameText place (c .command) (c .outcome) (take (c .«reply_length») room) text
+  pub adds : LineAdded l text buffer r after
+
+-- "writes, per frame, ..": a line for a call that ended at a frame, and none for another
+pub record Writes (place : ℕ) (c : Called) (room : List ℕ) (l : Lines) (buffer : List ℕ) (r : Lines) (after : List ℕ) : Type 0 where
+  pub nothing : c .outcome ≡ noFrame → (r ≡ l) × (after ≡ buffer)
+  pub line : (c .outcome ≡ noFrame → ⊥) → FrameAdded place c room l buffer r after
+
 -- what a call makes of the run
-pub record Follows (run : Run) (c : Called) (r : Run) : Type 0 where
+pub record Follows (run : Run) (c : Called) (room buffer : List ℕ) (stage : Stage) (r : Run) (after : List ℕ) : Type 0 where
   pub keeps : r .record ≡ c .next
+  pub goes-on : r .stage ≡ stage
   pub passes : r .place ≡ placeAfter run c
   pub drops : r .dropped ≡ sum (run .dropped) (c .dropped)
   pub takes : r .at ≡ sum (run .at) (c .taken)
   pub ends : r .end ≡ run .end
+  pub writes : Writes (placeIn run c) c room (run .lines) buffer (r .lines) after
 
--- r and the area are as the call leaves them
-pub record Passes (run : Run) (x : CallLeaves) (r : Run) (area : List ℕ) : Type 0 where
-  pub follows : Follows run (x .called) r
+-- the run, the output buffer and the area are as the call leaves them
+pub record Passes (run : Run) (x : CallLeaves) (buffer : List ℕ) (stage : Stage) (r : Run) (after area : List ℕ) : Type 0 where
+  pub follows : Follows run (x .called) (x .room) buffer stage r after
   pub leaves-area : area ≡ x .area
 
 -- each call is lent a room of zeros
 abbrev pub freshRoom : List ℕ
 freshRoom = replicate minRoom 0
 
--- quiet is told
+-- quiet is told,
 abbrev pub quietTurn : Run → List ℕ → CallLeaves
 quietTurn run area = quietedCall (run .record) freshRoom area
+
+-- and again until nothing is held
+abbrev pub stageQuiet : Record → Stage
+stageQuiet r = cond (eqb (r .reader .count) 0) Ended Quiet
+
+abbrev pub Quieted : Run → List ℕ → List ℕ → Run → List ℕ → List ℕ → Type 0
+Quieted run buffer area r after area′ =
+    let x = quietTurn run area in
+    Passes run x buffer (stageQuiet (x .called .next)) r after area′
 
 -- the bytes of the input buffer that are still to be fed are fed
 abbrev pub feedTurn : Run → List ℕ → List ℕ → CallLeaves
 feedTurn run input area = fedCall (slice (run .at) (run .end) input) (run .record) freshRoom area
 
--- the input buffer was read anew, and else nothing changed
-pub record ReadsOn (run r : Run) : Type 0 where
+-- after a read: it failed, it gave nothing and the input is at its end, or its bytes are to be fed
+abbrev pub stageRead : Bool → ℕ → Stage
+stageRead is-failed end = cond is-failed ReadFailed (cond (eqb end 0) Quiet Feeding)
+
+-- the same, whether or not it failed: quiet comes at the end of the input only
+pub record AfterRead (end : ℕ) (stage : Stage) : Type 0 where
+  pub quiet : stage ≡ Quiet → end ≡ 0
+  pub feeding : stage ≡ Feeding → 0 < end
+  pub not-ended : stage ≡ Ended → ⊥
+
+-- the run with a new input buffer up to `end`
+abbrev pub refilled : Run → Stage → ℕ → Lines → Run
+refilled run stage end l = record { «record» = run .«record»; stage = stage; at = 0; end = end; place = run .place; dropped = run .dropped; lines = l }
+
+-- the lines were written and the input buffer was read anew, and else nothing changed
+pub record ReadsOn (run : Run) (input : List ℕ) (r : Run) : Type 0 where
   pub keeps : r .record ≡ run .record
   pub stays : r .place ≡ run .place
   pub drops : r .dropped ≡ run .dropped
   pub starts : r .at ≡ 0
+  pub flushes : Flushed (run .lines) (r .lines)
+  pub within : r .end ≤ length input
+  pub goes-on : r .lines .failed ≡ false → AfterRead (r .end) (r .stage)
 
 -- what is left in the input buffer is fed; where nothing is, the input is read
-pub record FeedsOrReads (run : Run) (input area : List ℕ) (r : Run) (after : List ℕ) : Type 0 where
-  pub feeds : run .at < min (run .end) (length input) → Passes run (feedTurn run input area) r after
-  pub reads : min (run .end) (length input) ≤ run .at → ReadsOn run r × (after ≡ area)
+pub record FeedsOrReads (run : Run) (input buffer area : List ℕ) (r : Run) (after area′ : List ℕ) : Type 0 where
+  pub feeds : run .at < min (run .end) (length input) → Passes run (feedTurn run input area) buffer Feeding r after area′
+  pub reads : min (run .end) (length input) ≤ run .at → ReadsOn run input r × ((after ≡ buffer) × (area′ ≡ area))
+
+-- a turn, by the stage: one call on the record, or one read of the input, and nothing once the run is over
+abbrev pub Turned : Stage → Run → List ℕ → List ℕ → List ℕ → Run → List ℕ → List ℕ → Type 0
+Turned Feeding run input buffer area r after area′ = FeedsOrReads run input buffer area r after area′
+Turned Quiet run input buffer area r after area′ = Quieted run buffer area r after area′
+Turned Ended run input buffer area r after area′ = (r ≡ run) × ((after ≡ buffer) × (area′ ≡ area))
+Turned ReadFailed run input buffer area r after area′ = (r ≡ run) × ((after ≡ buffer) × (area′ ≡ area))

@@ -9,7 +9,7 @@ ghost use Rattle.controller.specs.Bench.{fresh};
 const AREA: usize = 65536;
 
 // The fresh record of the bench's one board.
-pub fn open() -> Record
+pub(crate) fn open() -> Record
     ensures { λ r. ⌜ r ≡ fresh ⌝ }
 {
     let none = Board {

@@ -16,7 +16,7 @@ pub struct Line {
 
 impl Line {
     // The line of a frame.
-    pub fn frame(place: u64, command: u8, outcome: u8, reply: &[u8]) -> Line
+    pub(crate) fn frame(place: u64, command: u8, outcome: u8, reply: &[u8]) -> Line
         requires { ⌜ length (now reply) ≤ 33 ⌝ }
         ensures { λ r. ⌜ FrameText place command outcome (now (reply .entry)) (textOf r) ⌝ }
         ensures { λ r. ⌜ r .count ≤ maxLine ⌝ }
@@ -33,7 +33,7 @@ impl Line {
     }
 
     // The last line.
-    pub fn end(dropped: u64) -> Line
+    pub(crate) fn end(dropped: u64) -> Line
         ensures { λ r. ⌜ EndText dropped (textOf r) ⌝ }
         ensures { λ r. ⌜ r .count ≤ maxLine ⌝ }
     {

@@ -3,10 +3,13 @@ use crate::line::Line;
 use crate::line::MAX_LINE;
 use libc::STDOUT_FILENO;
 ghost use mathlib.Core.Path.{_≡_};
+ghost use mathlib.Core.Bool.{true};
 ghost use Prim.Native.Nat.{_+_, _≤_, min};
-ghost use lib.ListN.{length};
+ghost use lib.ListN.{length, take};
 ghost use Rattle.io.specs.Counts.{Counts};
-ghost use Rattle.replay.specs.Texts.{maxLine};
+ghost use Rattle.transfer.specs.FD.{writtenAt};
+ghost use Rattle.replay.specs.Texts.{maxLine, textOf};
+ghost use Rattle.replay.specs.Outputs.{Flushed, RoomMade, LineAdded};
 
 // The length of the buffer: as `io::large_buffer` gives.
 pub const SIZE: usize = 65536;
@@ -19,11 +22,13 @@ pub struct Lines {
 
 impl Lines {
     // Adds a line. Those that wait are written first where it might not fit behind them.
-    pub fn add(self, line: Line, buffer: &mut [u8; SIZE]) -> Lines
+    pub(crate) fn add(self, line: Line, buffer: &mut [u8; SIZE]) -> Lines
         requires { ⌜ line .count ≤ maxLine ⌝ }
+        ensures { λ r. ⌜ LineAdded self (textOf line) (now (buffer .entry)) r (now (buffer .exit)) ⌝ }
     {
         let lines = self.with_room(buffer);
-        copy(line, buffer, lines.waiting);
+        let text = line.bytes;
+        put(text, line.count, buffer, lines.waiting);
         Lines {
             waiting: lines.waiting + line.count,
             failed: lines.failed,
@@ -32,7 +37,7 @@ impl Lines {
 
     // After this a longest line fits behind those that wait.
     fn with_room(self, buffer: &[u8; SIZE]) -> Lines
-        ensures { λ r. ⌜ r .waiting + maxLine ≤ 65536 ⌝ }
+        ensures { λ r. ⌜ RoomMade self r ⌝ }
     {
         if SIZE - MAX_LINE < self.waiting {
             return self.flush(buffer);
@@ -41,8 +46,8 @@ impl Lines {
     }
 
     // Writes all lines that wait.
-    pub fn flush(self, buffer: &[u8; SIZE]) -> Lines
-        ensures { λ r. ⌜ r .waiting ≡ 0 ⌝ }
+    pub(crate) fn flush(self, buffer: &[u8; SIZE]) -> Lines
+        ensures { λ r. ⌜ Flushed self r ⌝ }
     {
         let is_failed = write(self, buffer);
         Lines {
@@ -53,7 +58,9 @@ impl Lines {
 }
 
 // Writes what waits, and answers whether that, or a write before it, has failed.
-fn write(lines: Lines, buffer: &[u8; SIZE]) -> bool {
+fn write(lines: Lines, buffer: &[u8; SIZE]) -> bool
+    ensures { λ r. ⌜ (lines .failed ≡ true → r ≡ true) ⌝ }
+{
     if lines.failed {
         return true;
     }
@@ -63,20 +70,17 @@ fn write(lines: Lines, buffer: &[u8; SIZE]) -> bool {
     !is_written
 }
 
-// Puts the line into the buffer from `at` on.
-fn copy(line: Line, buffer: &mut [u8; SIZE], at: usize)
-    requires { ⌜ line .count ≤ maxLine ⌝ }
-    requires { ⌜ at + maxLine ≤ 65536 ⌝ }
+// Puts the first n bytes of a line into the buffer from `at` on.
+fn put(text: [u8; MAX_LINE], n: usize, buffer: &mut [u8], at: usize)
+    requires { ⌜ (n ≤ maxLine) × (at + maxLine ≤ length (now buffer)) ⌝ }
+    ensures { λ _. ⌜ now (buffer .exit) ≡ writtenAt (now (buffer .entry)) at (take n text) ⌝ }
+    ensures { λ _. ⌜ length (take n text) ≡ n ⌝ }
 {
-    let mut i = 0;
-    while i < line.count {
-        buffer[at + i] = line.bytes[i];
-        i += 1;
-    }
+    bytes::copy(&text[..n], &mut buffer[at..]);
 }
 
 // n, or the length of s where that is less.
-pub fn fit(n: usize, s: &[u8]) -> usize
+pub(crate) fn fit(n: usize, s: &[u8]) -> usize
     ensures { λ r. ⌜ Counts r (now (s .entry)) ⌝ }
     ensures { λ r. ⌜ r ≡ min n (length (now (s .entry))) ⌝ }
 {

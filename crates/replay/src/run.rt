@@ -13,7 +13,7 @@ ghost use mathlib.Core.Path.{_≡_};
 ghost use Prim.Native.Nat.{_≤_};
 ghost use lib.ListN.{take};
 ghost use Rattle.replay.specs.Texts.{maxLine, textOf, FrameText};
-ghost use Rattle.replay.specs.Runs.{sum, placeIn, quietTurn, Follows, Passes, ReadsOn, FeedsOrReads};
+ghost use Rattle.replay.specs.Runs.{sum, placeIn, stageQuiet, stageRead, AfterRead, refilled, readFailed, isOver, startOf, Follows, Quieted, ReadsOn, FeedsOrReads, Turned};
 
 // Where a run stands: it feeds what it reads; after the last byte it tells quiet until nothing is held.
 pub enum Stage {
@@ -39,7 +39,9 @@ pub struct Run {
 }
 
 impl Run {
-    pub fn start(record: Record) -> Run {
+    pub(crate) fn start(record: Record) -> Run
+        ensures { λ r. ⌜ r ≡ startOf «record» ⌝ }
+    {
         let lines = Lines {
             waiting: 0,
             failed: false,
@@ -56,7 +58,9 @@ impl Run {
     }
 
     // A failed write ends the run in any stage.
-    pub fn is_over(self) -> bool {
+    pub(crate) fn is_over(self) -> bool
+        ensures { λ r. ⌜ r ≡ isOver self ⌝ }
+    {
         if self.lines.failed {
             return true;
         }
@@ -69,7 +73,9 @@ impl Run {
         }
     }
 
-    pub fn read_failed(self) -> bool {
+    pub(crate) fn read_failed(self) -> bool
+        ensures { λ r. ⌜ r ≡ readFailed (self .stage) ⌝ }
+    {
         let stage = self.stage;
         match stage {
             Stage::Feeding => false,
@@ -80,7 +86,9 @@ impl Run {
     }
 
     // One call on the record, or one read of the input.
-    pub fn turn(self, input: &mut [u8], output: &mut [u8; SIZE], area: &mut [u8]) -> Run {
+    pub(crate) fn turn(self, input: &mut [u8], output: &mut [u8; SIZE], area: &mut [u8]) -> Run
+        ensures { λ r. ⌜ Turned (self .stage) self (now (input .entry)) (now (output .entry)) (now (area .entry)) r (now (output .exit)) (now (area .exit)) ⌝ }
+    {
         let stage = self.stage;
         match stage {
             Stage::Feeding => self.feed(input, output, area),
@@ -92,7 +100,7 @@ impl Run {
 
     // Feeds what is left in the input buffer, and fills it when nothing is.
     fn feed(self, input: &mut [u8], output: &mut [u8; SIZE], area: &mut [u8]) -> Run
-        ensures { λ r. ⌜ FeedsOrReads self (now (input .entry)) (now (area .entry)) r (now (area .exit)) ⌝ }
+        ensures { λ r. ⌜ FeedsOrReads self (now (input .entry)) (now (output .entry)) (now (area .entry)) r (now (output .exit)) (now (area .exit)) ⌝ }
     {
         let end = fit(self.end, input);
         let at = self.at;
@@ -106,8 +114,8 @@ impl Run {
     }
 
     // The lines go out first: a read may wait long, and who reads them should not wait with it.
-    fn read(self, input: &mut [u8], output: &mut [u8; SIZE]) -> Run
-        ensures { λ r. ⌜ ReadsOn self r ⌝ }
+    fn read(self, input: &mut [u8], output: &[u8; SIZE]) -> Run
+        ensures { λ r. ⌜ ReadsOn self (now (input .entry)) r ⌝ }
     {
         let lines = self.lines;
         let flushed = lines.flush(output);
@@ -116,11 +124,11 @@ impl Run {
         }
         let got = libc::read(STDIN_FILENO, input);
         let end = io::count(got, input);
-        self.filled(stage_read(got), end, flushed)
+        self.filled(stage_read(got < 0, end), end, flushed)
     }
 
     fn quiet(self, output: &mut [u8; SIZE], area: &mut [u8]) -> Run
-        ensures { λ r. ⌜ Passes self (quietTurn self (now (area .entry))) r (now (area .exit)) ⌝ }
+        ensures { λ r. ⌜ Quieted self (now (output .entry)) (now (area .entry)) r (now (output .exit)) (now (area .exit)) ⌝ }
     {
         let mut room = [0u8; MIN_ROOM];
         let record = self.record;
@@ -130,7 +138,7 @@ impl Run {
 
     // The input buffer is new up to `end`.
     fn filled(self, stage: Stage, end: usize, lines: Lines) -> Run
-        ensures { λ r. ⌜ ReadsOn self r ⌝ }
+        ensures { λ r. ⌜ r ≡ refilled self stage end lines ⌝ }
     {
         let record = self.record;
         Run {
@@ -146,7 +154,7 @@ impl Run {
 
     // What a call makes of the run: its drops are passed, then its frame, if it ended at one, gets a line and is passed.
     fn after(self, c: Called, stage: Stage, room: &[u8; MIN_ROOM], output: &mut [u8; SIZE]) -> Run
-        ensures { λ r. ⌜ Follows self c r ⌝ }
+        ensures { λ r. ⌜ Follows self c (now (room .entry)) (now (output .entry)) stage r (now (output .exit)) ⌝ }
     {
         let record = c.next;
         let at = std::num::wrapping_add_usize(self.at, c.taken);
@@ -189,17 +197,24 @@ impl Run {
     }
 }
 
-fn stage_read(got: isize) -> Stage {
-    if got < 0 {
+// After a read that put `end` bytes into the input buffer.
+fn stage_read(is_failed: bool, end: usize) -> Stage
+    ensures { λ r. ⌜ r ≡ stageRead «is_failed» end ⌝ }
+    ensures { λ r. ⌜ AfterRead end r ⌝ }
+{
+    if is_failed {
         return Stage::ReadFailed;
     }
-    if got == 0 {
+    if end == 0 {
         return Stage::Quiet;
     }
     Stage::Feeding
 }
 
-fn stage_quiet(record: Record) -> Stage {
+// After quiet was told.
+fn stage_quiet(record: Record) -> Stage
+    ensures { λ r. ⌜ r ≡ stageQuiet «record» ⌝ }
+{
     if record.reader.count == 0 {
         return Stage::Ended;
     }

@@ -11,7 +11,7 @@ use Rattle.frames.specs.declared.front.Front.the-variants.{Whole, Dead, 
 use Rattle.frames.specs.Frame.{maxFrame}
 use Rattle.frames.specs.Fronts.{frontOf}
 use Rattle.frames.specs.LiveReading.{withoutFrame, feedingCall}
-use Rattle.frames.proofs.Positions.{feedingAt, feeding-start, dead-some, open-room, feeding-dead-at, feeding-open-at, feeding-whole-at, feeding-ends-at}
+use Rattle.frames.proofs.Positions.{feedingAt, feeding-start, dead-some, feeding-dead-at, feeding-waits-at, waits-room, feeding-whole-at, feeding-ends-at}
 use Rattle.frames.proofs.scan.feeding.Statement.{statement}
 use Rattle.frames.proofs.scan.feeding.Tie as tie
 
@@ -100,19 +100,49 @@ returns-2 c =
           ∙ ap (λ (k : ℕ). withoutFrame (k - length (a p)) (slice (from p) k (a p ++ b p)) (from p)) (c .if1 .taken);
     }
 
+missing-requires : tie.Need-missing-requires Inv-loop μ-loop
+missing-requires c κs =
+    let p = c .before .before .before in
+    (omega arith, (omega arith, sym (p .front-at .ensures) ∙ c .before .enum-told3 .given .1))
+
+sub-clip : tie.Need-sub-clip Inv-loop μ-loop
+sub-clip c = omega arith
+
+clip-requires : tie.Need-clip-requires Inv-loop μ-loop
+clip-requires c κs = search needs
+
+-- where the bytes up to the next test are taken, as far as they are there
+module _ (c : tie.After-clip Inv-loop μ-loop) where
+  abbrev p : tie.After-front-at Inv-loop μ-loop
+  p = c .before .before .before .before .before
+
+  abbrev v : List ℕ
+  v = a p ++ b p
+
+  abbrev k : ℕ
+  k = c .clip .result
+
+  some : 0 < k
+  some = omega (arith, c .before .missing .ensures .some)
+
+  there : to p + k ≤ length v
+  there = omega (arith, length-append (a p) (b p))
+
+  stays : (t : ℕ) → to p ≤ t → t < to p + k → frontOf (slice (from p) t v) ≡ Open
+  stays t h j = c .before .missing .ensures .undecided t h (omega arith) (omega (arith, there))
+
 add-to : tie.Need-add-to Inv-loop μ-loop
 add-to c = omega arith
 
 loop-less-2 : tie.Need-loop-less-2 Inv-loop μ-loop
-loop-less-2 c = omega arith
+loop-less-2 c = omega (arith, some c)
 
 loop-again-2 : tie.Need-loop-again-2 Inv-loop μ-loop
 loop-again-2 c =
-    let p = c .before .before .before in
-    let undecided : frontOf (slice (from p) (to p) (a p ++ b p)) ≡ Open = sym (p .front-at .ensures) ∙ c .before .enum-told3 .given .1 in
-    let more : to p < length (a p ++ b p) = omega (arith, length-append (a p) (b p)) in
-    let room = open-room (a p ++ b p) (length (a p)) (from p) (to p) (omega arith) (end p) undecided in
-    (omega arith, (omega arith, (omega arith, (room, goes-on p ∙ feeding-open-at (a p ++ b p) (length (a p)) (from p) (to p) (omega arith) more (omega arith) undecided))))
+    let q = p c in
+    let room = waits-room (v c) (length (a q)) (from q) (to q) (k c) (omega arith) (some c) (there c) (stays c) in
+    let on = feeding-waits-at (v c) (length (a q)) (from q) (to q) (k c) (omega arith) (there c) (omega arith) (stays c) in
+    (omega arith, (omega arith, (omega arith, (room, goes-on q ∙ on))))
 
 pub feeding-spec : {M : Type 1} → statement M
 feeding-spec =
@@ -131,6 +161,9 @@ feeding-spec =
     loop-again
     enum-told-3
     returns-2
+    missing-requires
+    sub-clip
+    clip-requires
     add-to
     loop-less-2
     loop-again-2)

@@ -2,6 +2,7 @@
 use borrow.Author.Needs.{needs}
 use mathlib.Core.Path.{refl}
 use borrow.Author.Tests.{eq-eqb, ne-eqb}
+use Rattle.replay.specs.Texts.{textOf}
 use Rattle.replay.proofs.run.Run.after.Statement.{statement}
 use Rattle.replay.proofs.run.Run.after.Tie as tie
 
@@ -19,10 +20,12 @@ returns c =
     let place = c .before .before .before .before .plus in
     record {
       keeps = refl;
+      goes-on = refl;
       passes = simp (eq-eqb _ _ (c .if1 .taken), place .ensures);
       drops = c .before .before .before .plus2 .ensures;
       takes = c .before .before .before .before .before .wrapping-add-usize .ensures;
       ends = refl;
+      writes = record { nothing = λ _. (refl, refl); line = λ n. absurd (n (c .if1 .taken)) };
     }
 
 line-of-requires : tie.Need-line-of-requires
@@ -42,12 +45,15 @@ returns-2 c =
     let tested = c .before .before .before .before .before in
     let dropped = tested .before .before .before in
     let place = dropped .before .plus in
+    let line = c .before .before .before .before .line-of in
     record {
       keeps = refl;
+      goes-on = refl;
       passes = simp (ne-eqb _ _ (tested .if1 .left), c .plus4 .ensures, c .before .plus3 .ensures, place .ensures);
       drops = dropped .plus2 .ensures;
       takes = dropped .before .before .wrapping-add-usize .ensures;
       ends = refl;
+      writes = record { nothing = λ e. absurd (tested .if1 .left e); line = λ _. record { text = textOf (line .result); says = line .ensures .0; adds = c .before .before .add .ensures } };
     }
 
 pub after-spec : {M : Type 1} → statement M

@@ -53,7 +53,7 @@ same-length-3 c = search needs
 returns-2 : tie.Need-returns-2
 returns-2 c =
     let tested = c .before .before .before .before .before in
-    record { feeds = λ h. absurd (omega arith); reads = λ _. (c .before .before .read .ensures, refl) }
+    record { feeds = λ h. absurd (omega arith); reads = λ _. (c .before .before .read .ensures, (refl, refl)) }
 
 pub feed-spec : {M : Type 1} → statement M
 feed-spec =

@@ -1,6 +1,6 @@
 -- `replay::run::Run::quiet` meets its contract. Assumes nothing.
 use borrow.Author.Needs.{needs}
-use Rattle.replay.proofs.Turns.{passes}
+use Rattle.replay.proofs.Turns.{passes-quiet}
 use Rattle.replay.proofs.run.Run.quiet.Statement.{statement}
 use Rattle.replay.proofs.run.Run.quiet.Tie as tie
 
@@ -20,7 +20,7 @@ same-length : tie.Need-same-length
 same-length c = search needs
 
 returns : tie.Need-returns
-returns c = passes (c .before .before .before .before .before .before .before .quiet .ensures) (c .after .ensures)
+returns c = passes-quiet (c .before .before .before .stage-quiet .ensures) (c .before .before .before .before .before .before .before .quiet .ensures) (c .after .ensures)
 
 pub quiet-spec : {M : Type 1} → statement M
 quiet-spec =
