@@ -1,5 +1,6 @@
 #!/usr/bin/env python3
-"""What the program `vectors` must print, by other implementations: zlib's CRC-32, binascii's CRC-16/CCITT, and a frame made here.
+"""What the program `vectors` must print, by other implementations: zlib's CRC-32, binascii's CRC-16/CCITT, and CRC-16/MODBUS and a
+frame made here.
 
 tests/vectors.py > crates/vectors/stdout    makes the stored output anew.
 """
@@ -9,9 +10,23 @@ import zlib
 message = bytes(i * 7 % 251 for i in range(600))
 
 
+def reflected(x, width):
+    return int(f"{x:0{width}b}"[::-1], 2)
+
+
+def modbus(s):
+    """8005 bit by bit with the highest bit first, each byte and the result turned round; the functions tested move the other way."""
+    register = 0xFFFF
+    for byte in s:
+        register ^= reflected(byte, 8) << 8
+        for _ in range(8):
+            register = (register << 1 ^ (0x8005 if register & 0x8000 else 0)) & 0xFFFF
+    return reflected(register, 16)
+
+
 def sums(label, s):
     crc32 = zlib.crc32(s)
-    print(f"{label} {binascii.crc_hqx(s, 0xFFFF):04x} {crc32:08x} {crc32:08x}")
+    print(f"{label} {modbus(s):04x} {binascii.crc_hqx(s, 0xFFFF):04x} {crc32:08x} {crc32:08x}")
 
 
 def frame(n, size):

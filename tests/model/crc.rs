@@ -1,8 +1,9 @@
 //! The two check sums of the protocol, one table each, built at compile time.
 //!
-//! 01, "The six commands": "CRC-16 of a packet's n bytes: [...] 1021, start
-//! FFFF, nothing reflected, no final xor. CRC-32: the usual reflected one
-//! (EDB88320, start and final xor FFFFFFFF)."
+//! CRC-16 of a packet's n bytes: "the MODBUS one (8005 reflected, start FFFF,
+//! no final xor; 123456789 gives 4B37)" (document 02, K1). 01, "The six
+//! commands": "CRC-32: the usual reflected one (EDB88320, start and final xor
+//! FFFFFFFF)."
 
 static CRC16_TABLE: [u16; 256] = crc16_table();
 static CRC32_TABLE: [u32; 256] = crc32_table();
@@ -11,10 +12,10 @@ const fn crc16_table() -> [u16; 256] {
     let mut table = [0; 256];
     let mut index = 0;
     while index < 256 {
-        let mut crc = (index as u16) << 8;
+        let mut crc = index as u16;
         let mut bit = 0;
         while bit < 8 {
-            crc = if crc & 0x8000 != 0 { (crc << 1) ^ 0x1021 } else { crc << 1 };
+            crc = if crc & 1 != 0 { (crc >> 1) ^ 0x8005_u16.reverse_bits() } else { crc >> 1 };
             bit += 1;
         }
         table[index] = crc;
@@ -43,7 +44,7 @@ const fn crc32_table() -> [u32; 256] {
 pub fn crc16(bytes: &[u8]) -> u16 {
     bytes
         .iter()
-        .fold(0xFFFF, |crc, &byte| (crc << 8) ^ CRC16_TABLE[usize::from((crc >> 8) as u8 ^ byte)])
+        .fold(0xFFFF, |crc: u16, &byte| (crc >> 8) ^ CRC16_TABLE[usize::from(crc as u8 ^ byte)])
 }
 
 /// CRC-32 of an image or of its stored part.

@@ -63,7 +63,7 @@ fn unhex(text: &str) -> Vec<u8> {
 }
 
 fn check_sums(t: &mut Tally) {
-    t.same("CRC-16 of 123456789", crc16(b"123456789"), 0x29B1);
+    t.same("CRC-16 of 123456789", crc16(b"123456789"), 0x4B37);
     t.same("CRC-16 of nothing", crc16(b""), 0xFFFF);
     t.same("CRC-32 of 123456789", crc32(b"123456789"), 0xCBF4_3926);
     t.same("CRC-32 of nothing", crc32(b""), 0);
@@ -74,11 +74,11 @@ fn check_sums(t: &mut Tally) {
 
 fn bitwise_crc16(bytes: &[u8]) -> u16 {
     let mut crc = 0xFFFF_u16;
-    for bit in bytes.iter().flat_map(|byte| (0..8).rev().map(move |shift| (byte >> shift) & 1)) {
+    for bit in bytes.iter().flat_map(|byte| (0..8).map(move |shift| (byte >> shift) & 1)) {
         let out = (crc >> 15) as u8 ^ bit;
-        crc = (crc << 1) ^ if out == 1 { 0x1021 } else { 0 };
+        crc = (crc << 1) ^ if out == 1 { 0x8005 } else { 0 };
     }
-    crc
+    crc.reverse_bits()
 }
 
 fn bitwise_crc32(bytes: &[u8]) -> u32 {
@@ -94,7 +94,7 @@ const P2: &str = "55 AA 00 FE 00 02 0A 03 0C";
 const P3: &str = "55 AA 00 FA 00 03 0A 01 00 07";
 const P4: &str = "55 AA 00 FA 00 07 0A 00 01 00 02 02 00 0F";
 const P6: &str = "55 AA 00 FC 00 05 0A 00 00 00 00 0A";
-const P7: &str = "55 AA 10 FD 00 10 0A 00 00 00 09 29 B1 31 32 33 34 35 36 37 38 39 E6";
+const P7: &str = "55 AA 10 FD 00 10 0A 00 00 00 09 4B 37 31 32 33 34 35 36 37 38 39 8E";
 const P8: &str = "55 AA 00 FD 00 02 0A 00 08";
 const P9: &str = "55 AA 00 F9 00 08 01 0A 01 00 02 01 00 00 0F";
 

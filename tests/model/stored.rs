@@ -426,7 +426,17 @@ fn bench_transfer(s: &mut Stored) {
     s.ask(256, 0, "P3, P4: FA, Len1 256");
     s.tell(&image, 0, &[], "FB for 9 bytes: state 00");
     s.offset(0, 0, "P6: FC at 0, the reply is the same bytes");
-    s.packet(&fd(CHANNEL, 0, b"123456789"), 0, "P7, P8: packet 0, text 123456789");
+    s.packet(
+        &fd_raw(CHANNEL, 0, 9, 0x29B1, b"123456789"),
+        3,
+        "packet 0 with the CRC-16 of another kind (29B1, CCITT-FALSE): state 03",
+    );
+    s.packet(
+        &fd_raw(CHANNEL, 0, 9, 0x374B, b"123456789"),
+        3,
+        "packet 0 with its CRC-16 low byte first, as on a Modbus line: state 03",
+    );
+    s.packet(&fd(CHANNEL, 0, b"123456789"), 0, "P7, P8: packet 0, text 123456789, CRC-16 4B37");
     s.packet(&fd(CHANNEL, 0, b"123456789"), 1, "P7 sent again: state 01");
     s.end(0, "FE: CRC-32 CBF43926, state 00");
 }

@@ -1,7 +1,7 @@
 -- The bench table holds, by computation from the definitions of a call. Assumes nothing.
 use mathlib.Core.Path.{_≡_, refl}
 use mathlib.Core.List.{List, map}
-use Rattle.crc.specs.Crc.{bit, bits, byte, update, finish, checksum, crc16-ccitt, crc32}
+use Rattle.crc.specs.Crc.{bit, bits, byte, update, finish, checksum, crc16-modbus, crc32}
 use Rattle.frames.specs.Frame.{unsummed, encode, frameAt}
 use Rattle.frames.specs.Fronts.{frontOf}
 use Rattle.frames.specs.Finished.{zeros, finished}
@@ -28,5 +28,5 @@ use Rattle.controller.specs.OutwardReport.{reportRefusal, reported, room
 use Rattle.controller.specs.Bench.{Row, Seen, got, table, areaSize}
 
 pub bench : map (got (zeros areaSize)) table ≡ map (λ r. r .wanted) table
-unfolding bit bits byte update finish checksum crc16-ccitt crc32 unsummed encode frameAt frontOf finished writable writtenSize writtenRoom withFrame looking feedingCall fed find commandTable rowAt placeOfCommand headerOf requestFA requestFB requestFC requestFD packetOf replyFA replyFB replyFC replyState replyFrame hasReply replySize replyRoom same newer sameIdentity answerFA stateFB afterFB grantFB answerFB answerFC stateFD answerFD writtenAt areaFD answerFE placeOf badList listOf freshSession opened unlawful stepOf areaOf routed routedArea judged judgedArea answered areaAfter boardsBytes reportBytes reportFrame reportSize reportRoom unlawfulRecord openedRecord refusalOf finishedCall calledBy reportRefusal reported roomReported
+unfolding bit bits byte update finish checksum crc16-modbus crc32 unsummed encode frameAt frontOf finished writable writtenSize writtenRoom withFrame looking feedingCall fed find commandTable rowAt placeOfCommand headerOf requestFA requestFB requestFC requestFD packetOf replyFA replyFB replyFC replyState replyFrame hasReply replySize replyRoom same newer sameIdentity answerFA stateFB afterFB grantFB answerFB answerFC stateFD answerFD writtenAt areaFD answerFE placeOf badList listOf freshSession opened unlawful stepOf areaOf routed routedArea judged judgedArea answered areaAfter boardsBytes reportBytes reportFrame reportSize reportRoom unlawfulRecord openedRecord refusalOf finishedCall calledBy reportRefusal reported roomReported
 bench = refl

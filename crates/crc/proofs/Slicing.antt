@@ -9,9 +9,9 @@ use lib.ListN.{length, take, drop, getD, length-drop}
 use lib.Seq.{take-add, drop-drop, drop-cons, length-take-le}
 use lib.Bits.{bitXor, xor-zero-r}
 use Rattle.crc.specs.Crc.{Kind, byte, update}
-use Rattle.crc.specs.Tables.{zeroBytes}
+use Rattle.crc.specs.Tables.{zeroBytes, front, rest}
 use Rattle.crc.proofs.Linear.{update-xor, zeroBytes-xor, zeroBytes-add}
-use Rattle.crc.proofs.TableStep.{front, rest, byte-table}
+use Rattle.crc.proofs.TableStep.{byte-table}
 use Rattle.crc.proofs.Updates.{update-none, update-append}
 
 -- the table entry for the byte b, the register being r

@@ -6,23 +6,14 @@ use native.Mathlib.Omega.{arith}
 use lib.Pow.{pow-pos, pow-mono, split}
 use lib.Bits.{bitXor, xor-comm, xor-shifted, shifted-even, shifted-half}
 use Rattle.crc.specs.Crc.{Direction, normal, reflected, Kind, leaving, moved, entering, bit, bits, byte}
+use Rattle.crc.specs.Tables.{front, rest}
 use Rattle.crc.proofs.Xor.{xor-assoc}
 use Rattle.crc.proofs.Linear.{bits-xor, entering-xor}
 
--- the eight bits of the register that the next byte is added to
-abbrev pub front : Direction → ℕ → ℕ → ℕ
-front normal w r = r / 2 ^ (w - 8)
-front reflected w r = r % 2 ^ 8
-
--- the other bits in their place,
+-- the bits of the register that the next byte is not added to, in their place
 abbrev kept : Direction → ℕ → ℕ → ℕ
 kept normal w r = r % 2 ^ (w - 8)
 kept reflected w r = r / 2 ^ 8 * 2 ^ 8
-
--- and eight steps later: nothing of them leaves, they only move
-abbrev pub rest : Direction → ℕ → ℕ → ℕ
-rest normal w r = r % 2 ^ (w - 8) * 2 ^ 8
-rest reflected w r = r / 2 ^ 8
 
 parts : (d : Direction) (w r : ℕ) → bitXor (kept d w r) (entering d w (front d w r)) ≡ r
 parts normal w r =

@@ -62,11 +62,16 @@ finish k r = bitXor (k .xorout) r
 unfoldable pub checksum : Kind → List ℕ → ℕ
 checksum k s = finish k (update k (k .init) s)
 
--- 01, "The six commands": "CRC-16 of a packet's n bytes: .. 1021, start FFFF, nothing reflected, no final xor"
+-- The packet check of FD: "the MODBUS one (8005 reflected, start FFFF, no final xor ..)" (document 02, K1, which mends 01's sentence on
+-- CRC-16). A001 is 8005 reflected.
+unfoldable pub crc16-modbus : Kind
+crc16-modbus = record { width = 16; poly = 0xA001; init = 0xFFFF; direction = reflected; xorout = 0 }
+
+-- The second maker's, source document 000: "1021, start FFFF, nothing reflected, no final xor", as 01 quotes it
 -- (CRC-16/CCITT-FALSE in the usual catalogues)
 unfoldable pub crc16-ccitt : Kind
 crc16-ccitt = record { width = 16; poly = 0x1021; init = 0xFFFF; direction = normal; xorout = 0 }
 
--- "CRC-32: the usual reflected one (EDB88320, start and final xor FFFFFFFF)"
+-- 01, "The six commands": "CRC-32: the usual reflected one (EDB88320, start and final xor FFFFFFFF)"
 unfoldable pub crc32 : Kind
 crc32 = record { width = 32; poly = 0xEDB88320; init = 0xFFFFFFFF; direction = reflected; xorout = 0xFFFFFFFF }

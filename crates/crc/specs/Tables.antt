@@ -1,10 +1,11 @@
--- What tables of precomputed registers hold. Internal: the private functions of the crates above cite these, no public contract does.
+-- What tables of precomputed registers hold, and the two parts of a register in a step by a table. Internal: the private functions of
+-- the crates above cite these, no public contract does.
 -- Assumes nothing.
 use mathlib.Core.Path.{_≡_}
 use mathlib.Core.List.{List}
-use Prim.Native.Nat.{ℕ, zero, suc, _+_, _*_, _<_}
+use Prim.Native.Nat.{ℕ, zero, suc, _+_, _-_, _*_, _/_, _%_, _^_, _<_}
 use lib.ListN.{getD}
-use Rattle.crc.specs.Crc.{Kind, bits, byte}
+use Rattle.crc.specs.Crc.{Direction, normal, reflected, Kind, bits, byte}
 
 -- the register after n bytes of zero
 unfoldable pub zeroBytes : Kind → ℕ → ℕ → ℕ
@@ -14,3 +15,13 @@ zeroBytes k (suc n) r = zeroBytes k n (bits k 8 r)
 -- n tables of 256 entries, one after the other: in table m, at j, the register after the byte j and m bytes of zero, from 0
 unfoldable pub Tabled : Kind → ℕ → List ℕ → Type 0
 Tabled k n t = (m j : ℕ) → m < n → j < 256 → getD t (m * 256 + j) 0 ≡ zeroBytes k m (byte k 0 j)
+
+-- the eight bits of a register of w bits that the next byte is added to
+abbrev pub front : Direction → ℕ → ℕ → ℕ
+front normal w r = r / 2 ^ (w - 8)
+front reflected w r = r % 2 ^ 8
+
+-- the other bits eight steps later: nothing of them leaves, they only move
+abbrev pub rest : Direction → ℕ → ℕ → ℕ
+rest normal w r = r % 2 ^ (w - 8) * 2 ^ 8
+rest reflected w r = r / 2 ^ 8

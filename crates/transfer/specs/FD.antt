@@ -7,7 +7,7 @@ use mathlib.Core.List.{List, _++_}
 use Prim.Native.Nat.{ℕ, _+_}
 use lib.Dec.{ltb, eqb}
 use lib.ListN.{length, take, drop}
-use Rattle.crc.specs.Crc.{checksum, crc16-ccitt}
+use Rattle.crc.specs.Crc.{checksum, crc16-modbus}
 use Rattle.commands.specs.declared.request.RequestFD.{RequestFD}
 use Rattle.commands.specs.Replies.{replyState}
 use Rattle.transfer.specs.declared.state.Transfer.{Transfer}
@@ -24,8 +24,9 @@ wrongSize t r size =
     not (eqb (r .size) size)
     || (eqb (r .size) 0 || (ltb (t .agreed) (r .size) || ltb (t .image .announced) (t .stored + r .size)))
 
+-- "the CRC-16 in FD is the MODBUS one" (document 02, K1). As all numbers its two bytes come high byte first, unlike on a Modbus line.
 abbrev pub wrongCrc : RequestFD → List ℕ → Bool
-wrongCrc r p = not (eqb (checksum crc16-ccitt p) (r .crc))
+wrongCrc r p = not (eqb (checksum crc16-modbus p) (r .crc))
 
 -- the state replied
 unfoldable pub stateFD : Transfer → RequestFD → List ℕ → ℕ

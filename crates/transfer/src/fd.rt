@@ -83,7 +83,7 @@ impl Transfer {
 fn wrong_crc(r: RequestFD, packet: &[u8]) -> bool
     ensures { λ x. ⌜ x ≡ wrongCrc r (now (packet .entry)) ⌝ }
 {
-    crc16::ccitt(packet) as usize != r.crc
+    crc16::modbus(packet) as usize != r.crc
 }
 
 // Lends the part of the area that begins at `at` on to the copying function, and no other part.

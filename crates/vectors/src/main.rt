@@ -49,11 +49,12 @@ fn text(s: &[u8], m: &[u8]) {
     sums(s);
 }
 
-// Both checksums, and CRC-32 once more in two parts.
+// Both kinds of CRC-16, CRC-32, and CRC-32 once more in two parts.
 fn sums(s: &[u8]) {
     let half = fit(s.len() / 2, s);
     let register = crc32::update(crc32::INIT, &s[..half]);
     let parts = crc32::finish(crc32::update(register, &s[half..]));
+    word(crc16::modbus(s) as u64, 4);
     word(crc16::ccitt(s) as u64, 4);
     word(crc32::checksum(s) as u64, 8);
     word(parts as u64, 8);

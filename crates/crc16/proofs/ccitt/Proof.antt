@@ -1,16 +1,16 @@
 -- `crc16::ccitt` meets its contract: the whole table is tested by computation. Assumes nothing.
 use mathlib.Core.Path.{refl}
-use Rattle.crc.specs.Crc.{bit, bits, byte, finish, checksum, crc16-ccitt}
+use Rattle.crc.specs.Crc.{bit, bits, byte, crc16-ccitt}
 use Rattle.crc.proofs.Tables.{first-entry, later-entry, tabled}
 use Rattle.crc16.proofs.ccitt.Statement.{statement}
 use Rattle.crc16.proofs.ccitt.Tie as tie
 
 over-requires : tie.Need-over-requires
-unfolding first-entry later-entry byte bits bit crc16-ccitt
-over-requires c κs = tabled crc16-ccitt 1 _ refl tt
+unfolding first-entry later-entry byte bits bit
+over-requires c κs = tabled _ 1 _ refl tt
 
 returns : tie.Need-returns
-unfolding checksum finish crc16-ccitt
+unfolding crc16-ccitt
 returns c = c .over .ensures
 
 pub ccitt-spec : {M : Type 1} → statement M

@@ -1,18 +1,19 @@
--- `crc16::over` meets its contract. The loop's invariant: c is the register after the first i bytes. Assumes nothing.
+-- `crc16::register::over` meets its contract. The loop's invariant: c is the register after the first i bytes. Assumes nothing.
 use borrow.Author.Needs.{needs}
 use mathlib.Core.Path.{_≡_, refl, _∙_}
 use Prim.Native.Nat.{_≤_, _-_}
 use lib.ListN.{length, take}
-use Rattle.crc.specs.Crc.{update, crc16-ccitt}
+use Rattle.crc.specs.Crc.{update, finish, checksum}
 use Rattle.crc.proofs.Updates.{update-next, update-all}
-use Rattle.crc16.proofs.over.Statement.{statement}
-use Rattle.crc16.proofs.over.Tie as tie
+use Rattle.crc16.specs.Kinds.{kindOf}
+use Rattle.crc16.proofs.register.over.Statement.{statement}
+use Rattle.crc16.proofs.register.over.Tie as tie
 
 abbrev Inv-loop : tie.InvT-loop
-Inv-loop t register s c₀ i₀ c i = (i ≤ length s) × (c ≡ update crc16-ccitt register (take i s))
+Inv-loop p t s c₀ i₀ c i = (i ≤ length s) × (c ≡ update (kindOf p) (p .start) (take i s))
 
 abbrev μ-loop : tie.MeasureT-loop
-μ-loop t register s c₀ i₀ c i = length s - i
+μ-loop p t s c₀ i₀ c i = length s - i
 
 loop-holds : tie.Need-loop-holds Inv-loop μ-loop
 unfolding update
@@ -36,6 +37,7 @@ loop-again c =
     (search needs, c .next .ensures ∙ update-next _ _ _ (at .loop .i) (c .before .before .loop-test .taken) (at .loop .inv .1))
 
 returns : tie.Need-returns Inv-loop μ-loop
+unfolding checksum finish
 returns c = update-all _ _ _ (c .before .loop .i) (c .loop-test .left) (c .before .loop .inv .1)
 
 pub over-spec : {M : Type 1} → statement M

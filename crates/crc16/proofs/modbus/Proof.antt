@@ -1,0 +1,17 @@
+-- `crc16::modbus` meets its contract: the whole table is tested by computation. Assumes nothing.
+use mathlib.Core.Path.{refl}
+use Rattle.crc.specs.Crc.{bit, bits, byte, crc16-modbus}
+use Rattle.crc.proofs.Tables.{first-entry, later-entry, tabled}
+use Rattle.crc16.proofs.modbus.Statement.{statement}
+use Rattle.crc16.proofs.modbus.Tie as tie
+
+over-requires : tie.Need-over-requires
+unfolding first-entry later-entry byte bits bit
+over-requires c κs = tabled _ 1 _ refl tt
+
+returns : tie.Need-returns
+unfolding crc16-modbus
+returns c = c .over .ensures
+
+pub modbus-spec : {M : Type 1} → statement M
+modbus-spec = tie.close (tie.spec over-requires returns)
