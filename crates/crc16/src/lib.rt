@@ -2,8 +2,9 @@
 //
 // What a CRC is stands in specs/Crc.antt of the crate `crc`; each function here is equal to that definition on every slice. What the
 // two share is one loop over a kind's parameters, in `register`; each has its table of 256 entries.
+mod ccitt_table;
+mod modbus_table;
 mod register;
-mod tables;
 
 use crate::register::Parameters;
 ghost use mathlib.Core.Path.{_≡_};
@@ -13,7 +14,7 @@ ghost use Rattle.crc.specs.Crc.{checksum, crc16-ccitt, crc16-modbus};
 pub fn modbus(s: &[u8]) -> u16
     ensures { λ r. ⌜ r ≡ checksum crc16-modbus (now (s .entry)) ⌝ }
 {
-    let t = tables::MODBUS;
+    let t = modbus_table::MODBUS;
     let p = Parameters {
         poly: 0xA001,
         start: 0xFFFF,
@@ -26,7 +27,7 @@ pub fn modbus(s: &[u8]) -> u16
 pub fn ccitt(s: &[u8]) -> u16
     ensures { λ r. ⌜ r ≡ checksum crc16-ccitt (now (s .entry)) ⌝ }
 {
-    let t = tables::CCITT;
+    let t = ccitt_table::CCITT;
     let p = Parameters {
         poly: 0x1021,
         start: 0xFFFF,

@@ -22,7 +22,7 @@ lastPlace = bufferSize - maxLine
 abbrev pub nextPlace : Lines → ℕ
 nextPlace l = cond (ltb lastPlace (l .waiting)) 0 (l .waiting)
 
--- those that waited are written
+-- none waits any more. That they were written is no part of this: what a write does no definition here says
 pub record Flushed (l r : Lines) : Type 0 where
   pub waits : r .waiting ≡ 0
   pub fails : l .failed ≡ true → r .failed ≡ true

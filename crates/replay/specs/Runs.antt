@@ -124,14 +124,14 @@ pub record ReadsOn (run : Run) (input : List ℕ) (r : Run) : Type 0 where
   pub within : r .end ≤ length input
   pub goes-on : r .lines .failed ≡ false → AfterRead (r .end) (r .stage)
 
--- what is left in the input buffer is fed; where nothing is, the input is read
-pub record FeedsOrReads (run : Run) (input buffer area : List ℕ) (r : Run) (after area′ : List ℕ) : Type 0 where
-  pub feeds : run .at < min (run .end) (length input) → Passes run (feedTurn run input area) buffer Feeding r after area′
+-- what is left in the input buffer is fed, and stays there; where nothing is, the input is read: what the buffer then holds is the read's
+pub record FeedsOrReads (run : Run) (input buffer area : List ℕ) (r : Run) (input′ after area′ : List ℕ) : Type 0 where
+  pub feeds : run .at < min (run .end) (length input) → Passes run (feedTurn run input area) buffer Feeding r after area′ × (input′ ≡ input)
   pub reads : min (run .end) (length input) ≤ run .at → ReadsOn run input r × ((after ≡ buffer) × (area′ ≡ area))
 
 -- a turn, by the stage: one call on the record, or one read of the input, and nothing once the run is over
-abbrev pub Turned : Stage → Run → List ℕ → List ℕ → List ℕ → Run → List ℕ → List ℕ → Type 0
-Turned Feeding run input buffer area r after area′ = FeedsOrReads run input buffer area r after area′
-Turned Quiet run input buffer area r after area′ = Quieted run buffer area r after area′
-Turned Ended run input buffer area r after area′ = (r ≡ run) × ((after ≡ buffer) × (area′ ≡ area))
-Turned ReadFailed run input buffer area r after area′ = (r ≡ run) × ((after ≡ buffer) × (area′ ≡ area))
+abbrev pub Turned : Stage → Run → List ℕ → List ℕ → List ℕ → Run → List ℕ → List ℕ → List ℕ → Type 0
+Turned Feeding run input buffer area r input′ after area′ = FeedsOrReads run input buffer area r input′ after area′
+Turned Quiet run input buffer area r input′ after area′ = Quieted run buffer area r after area′ × (input′ ≡ input)
+Turned Ended run input buffer area r input′ after area′ = (r ≡ run) × ((after ≡ buffer) × ((area′ ≡ area) × (input′ ≡ input)))
+Turned ReadFailed run input buffer area r input′ after area′ = (r ≡ run) × ((after ≡ buffer) × ((area′ ≡ area) × (input′ ≡ input)))

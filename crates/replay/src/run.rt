@@ -87,7 +87,7 @@ impl Run {
 
     // One call on the record, or one read of the input.
     pub(crate) fn turn(self, input: &mut [u8], output: &mut [u8; SIZE], area: &mut [u8]) -> Run
-        ensures { λ r. ⌜ Turned (self .stage) self (now (input .entry)) (now (output .entry)) (now (area .entry)) r (now (output .exit)) (now (area .exit)) ⌝ }
+        ensures { λ r. ⌜ Turned (self .stage) self (now (input .entry)) (now (output .entry)) (now (area .entry)) r (now (input .exit)) (now (output .exit)) (now (area .exit)) ⌝ }
     {
         let stage = self.stage;
         match stage {
@@ -100,7 +100,7 @@ impl Run {
 
     // Feeds what is left in the input buffer, and fills it when nothing is.
     fn feed(self, input: &mut [u8], output: &mut [u8; SIZE], area: &mut [u8]) -> Run
-        ensures { λ r. ⌜ FeedsOrReads self (now (input .entry)) (now (output .entry)) (now (area .entry)) r (now (output .exit)) (now (area .exit)) ⌝ }
+        ensures { λ r. ⌜ FeedsOrReads self (now (input .entry)) (now (output .entry)) (now (area .entry)) r (now (input .exit)) (now (output .exit)) (now (area .exit)) ⌝ }
     {
         let end = fit(self.end, input);
         let at = self.at;

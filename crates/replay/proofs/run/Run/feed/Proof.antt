@@ -40,7 +40,7 @@ returns c =
     let end = tested .before .fit in
     let o = tested .before .before .before .before .before in
     record {
-      feeds = λ _. passes-cut (end .result) (o .args .input .now) (o .args .area .now) (end .ensures .1) (called .feed .ensures) (c .after .ensures);
+      feeds = λ _. (passes-cut (end .result) (o .args .input .now) (o .args .area .now) (end .ensures .1) (called .feed .ensures) (c .after .ensures), refl);
       reads = λ h. absurd (omega arith);
     }
 
