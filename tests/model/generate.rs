@@ -5,7 +5,7 @@
 //! sensible next thing; that leads captures deep into transfers. A `Mix` says
 //! how often it does something else. Sizes run from nothing to tens of KiB.
 
-use crate::crc::crc32;
+use crate::crc::{crc16, crc32};
 use crate::receiver::{Outcome, Receiver, REPLY_ROOM};
 use crate::replay::{bench_receiver, BENCH_AREA};
 use crate::rng::Rng;
@@ -26,6 +26,10 @@ pub const LONG_KIND: &str = "numbers";
 struct Mix {
     /// Begin again with FA, as after a lost link.
     restart: usize,
+    /// Send the packet accepted last in this leg again: its reply was lost.
+    lost: usize,
+    /// Send it again at any time, in another phase or leg too.
+    late: usize,
     /// Send a well-formed frame the session must refuse or reset at.
     mistake: usize,
     /// Send a frame that outcome 2, 3 or 4 refuses, or an F9.
@@ -44,15 +48,17 @@ struct Mix {
 pub fn generate(kind: &str, seed: u64) -> Option<Vec<u8>> {
     let base = Mix { switch: 10, nested: 100, ..Mix::default() };
     let mix = match kind {
-        "sound" => base,
-        "resume" => Mix { restart: 80, switch: 40, ..base },
-        "mistakes" => Mix { restart: 30, mistake: 350, switch: 30, ..base },
-        "shapes" => Mix { restart: 20, mistake: 50, oddity: 500, ..base },
-        "damaged" => Mix { restart: 20, mistake: 80, damage: 100, ..base },
-        "headers" => Mix { restart: 20, mistake: 50, stray: 300, ..base },
-        "nested" => Mix { restart: 20, mistake: 50, damage: 200, nested: 900, ..base },
+        "sound" => Mix { lost: 60, ..base },
+        "resume" => Mix { restart: 80, lost: 60, late: 60, switch: 40, ..base },
+        "mistakes" => Mix { restart: 30, lost: 60, late: 20, mistake: 350, switch: 30, ..base },
+        "shapes" => Mix { restart: 20, lost: 60, mistake: 50, oddity: 500, ..base },
+        "damaged" => Mix { restart: 20, lost: 100, mistake: 80, damage: 100, ..base },
+        "headers" => Mix { restart: 20, lost: 60, mistake: 50, stray: 300, ..base },
+        "nested" => Mix { restart: 20, lost: 60, mistake: 50, damage: 200, nested: 900, ..base },
         "mixed" => Mix {
             restart: 30,
+            lost: 60,
+            late: 20,
             mistake: 150,
             oddity: 100,
             stray: 80,
@@ -69,6 +75,19 @@ pub fn generate(kind: &str, seed: u64) -> Option<Vec<u8>> {
     Some(Bench::new(Rng::new(seed), mix).run())
 }
 
+/// A packet as the module remembers it.
+#[derive(Clone, Default)]
+struct Packet {
+    number: u16,
+    bytes: Vec<u8>,
+}
+
+impl Packet {
+    fn frame(&self) -> Vec<u8> {
+        wire::fd(10, self.number, &self.bytes)
+    }
+}
+
 /// The module at the bench.
 struct Bench {
     rng: Rng,
@@ -79,6 +98,8 @@ struct Bench {
     images: Vec<Image>,
     image: usize,
     len1: u16,
+    /// The two packets accepted last, the later one second, whatever came since.
+    accepted: [Packet; 2],
 }
 
 impl Bench {
@@ -94,6 +115,7 @@ impl Bench {
             images,
             image: 0,
             len1,
+            accepted: Default::default(),
         }
     }
 
@@ -123,6 +145,10 @@ impl Bench {
         let frame = if self.rng.chance(self.mix.restart) {
             self.len1 = packet_size(&mut self.rng);
             wire::fa(10, self.len1)
+        } else if self.rng.chance(self.mix.lost) {
+            self.lost_reply()
+        } else if self.rng.chance(self.mix.late) {
+            self.accepted[1].frame()
         } else if self.rng.chance(self.mix.mistake) {
             self.mistake()
         } else if self.rng.chance(self.mix.oddity) {
@@ -142,11 +168,25 @@ impl Bench {
         let mut room = [0; REPLY_ROOM];
         let mut rest = bytes;
         loop {
+            let before = self.session().stored as usize;
             let report = self.mirror.feed(rest, &mut self.area, &mut room);
             rest = &rest[report.taken..];
-            if report.outcome == Outcome::NoFrame {
-                return;
+            match report.outcome {
+                Outcome::NoFrame => return,
+                Outcome::BadRecord => panic!("a frame left the mirror unlawful"),
+                _ => self.remember_packet(before),
             }
+        }
+    }
+
+    /// Remembers a packet if one was accepted: stored has grown by it.
+    fn remember_packet(&mut self, before: usize) {
+        let session = self.mirror.session();
+        if let Some(bytes @ [_, ..]) = self.area.get(before..session.stored as usize) {
+            let number = (session.next_number - 1) as u16;
+            let packet = Packet { number, bytes: bytes.to_vec() };
+            self.accepted.rotate_left(1);
+            self.accepted[1] = packet;
         }
     }
 
@@ -196,7 +236,7 @@ impl Bench {
     /// A frame of right shape and channel that is wrong where the session is.
     fn mistake(&mut self) -> Vec<u8> {
         let stored = self.session().stored;
-        match self.rng.below(12) {
+        match self.rng.below(16) {
             0 => {
                 self.len1 = self.rng.pick(&[0, 1, 14, 15, 16, 17, 511, 512, 513, 0x8000, 0xFFFF]);
                 wire::fa(10, self.len1)
@@ -213,17 +253,66 @@ impl Bench {
                 wire::fc(10, offset)
             }
             5 => wire::fe(10),
-            6 => self.retry(),
+            6..=9 => self.wrong_repeat(),
             _ => self.wrong_packet(),
         }
     }
 
-    /// The packet before the next one, again.
-    fn retry(&mut self) -> Vec<u8> {
-        let number = self.session().next_number.saturating_sub(1) as u16;
-        let n = self.rng.between(1, 64);
-        let bytes = self.rng.bytes(n);
-        wire::fd(10, number, &bytes)
+    /// The packet accepted last in this leg again, once or more, as often as its
+    /// reply was lost; where there is damage, perhaps torn before it comes whole.
+    fn lost_reply(&mut self) -> Vec<u8> {
+        if self.session().phase != Phase::Receiving || self.session().next_number == 0 {
+            return self.sensible();
+        }
+        let frame = self.accepted[1].frame();
+        let times = self.rng.pick(&[1, 1, 1, 2, 3, 9]);
+        let again = frame.repeat(times);
+        if self.mix.damage > 0 && self.rng.chance(300) {
+            let torn = &frame[..self.rng.below(frame.len())];
+            return [torn, &again].concat();
+        }
+        again
+    }
+
+    /// The packet accepted last again, but not quite it, or not at its time.
+    fn wrong_repeat(&mut self) -> Vec<u8> {
+        let [earlier, last] = self.accepted.clone();
+        if last.bytes.is_empty() {
+            return self.sensible();
+        }
+        match self.rng.below(9) {
+            0 => earlier.frame(),
+            1 => Packet { number: last.number, ..earlier }.frame(),
+            2 => {
+                let (above, below) = (last.number.wrapping_add(1), last.number.wrapping_sub(1));
+                let number = self.rng.pick(&[above, below, earlier.number, !0]);
+                Packet { number, ..last }.frame()
+            }
+            3 => {
+                let new_leg = wire::fc(10, self.session().stored);
+                let number = self.rng.pick(&[last.number, !0]);
+                [new_leg, Packet { number, ..last }.frame()].concat()
+            }
+            4 => {
+                let refused = if self.rng.chance(300) { wire::fe(10) } else { self.bad_crc() };
+                [refused, last.frame()].concat()
+            }
+            _ => {
+                let stored = &self.area[..self.mirror.session().stored as usize];
+                let wrong = almost(&mut self.rng, &last, stored);
+                if self.rng.chance(300) {
+                    return [last.frame(), wrong, last.frame()].concat();
+                }
+                wrong
+            }
+        }
+    }
+
+    /// A packet of the next number, some length and a wrong CRC-16.
+    fn bad_crc(&mut self) -> Vec<u8> {
+        let n = self.rng.between(1, 16);
+        let bytes = self.image_part(n);
+        wire::fd_raw(10, self.session().next_number as u16, n as u16, !crc16(&bytes), &bytes)
     }
 
     /// A packet with one to three things wrong, for the order of the checks.
@@ -250,9 +339,38 @@ impl Bench {
             }
         }
         let bytes = self.image_part(n);
-        let crc = crate::crc::crc16(&bytes) ^ crc_change;
+        let crc = crc16(&bytes) ^ crc_change;
         wire::fd_raw(10, number, (n as u16).wrapping_add(claimed_more), crc, &bytes)
     }
+}
+
+/// The packet accepted last with another CRC-16, byte, n or count of bytes;
+/// `stored` are the area's stored bytes.
+fn almost(rng: &mut Rng, last: &Packet, stored: &[u8]) -> Vec<u8> {
+    let length = last.bytes.len();
+    let any = rng.between(0, 512);
+    let count = rng.pick(&[length - 1, length + 1, any]).min(512);
+    let mut n = length as u16;
+    let mut crc_change = 0;
+    let mut bytes = last.bytes.clone();
+    match rng.below(6) {
+        0 | 1 => crc_change = rng.pick(&[1, 0x8000, 0xFFFF]),
+        2 => {
+            let place = rng.pick(&[0, any % length, length - 1]);
+            bytes[place] ^= 1 << rng.below(8);
+            crc_change = rng.pick(&[0, 0, 1]);
+        }
+        3 => n = n.wrapping_add(rng.pick(&[1, !0, 256])),
+        4 => {
+            bytes.resize(count, 0);
+            n = rng.pick(&[n, count as u16]);
+        }
+        _ => {
+            bytes = stored[stored.len().saturating_sub(count)..].to_vec();
+            n = rng.pick(&[n, bytes.len() as u16]);
+        }
+    }
+    wire::fd_raw(10, last.number, n, crc16(&bytes) ^ crc_change, &bytes)
 }
 
 /// Packet sizes modules ask for, most of them allowed.
@@ -531,26 +649,37 @@ fn tiny(rng: &mut Rng) -> Vec<u8> {
     capture
 }
 
-/// Every packet number: 65,536 packets of one byte fill the area; then no
-/// number is the next, until FC. "After number 65,535 no packet is next."
+/// Every packet number: 65,536 packets of one byte fill the area, some sent
+/// again; then no number is the next, until FC. "After number 65,535 no packet is
+/// next", but 65,535 is one below it and may come again.
 fn numbers(rng: &mut Rng) -> Vec<u8> {
     let image = Image::new([1, 0, 3], rng.byte(), rng.bytes(BENCH_AREA));
     let mut capture = wire::fa(10, 16);
     capture.extend(wire::fb(10, &image));
     capture.extend(wire::fc(10, 0));
     for (number, byte) in image.bytes.iter().enumerate() {
-        capture.extend(wire::fd(10, number as u16, &[*byte]));
+        let packet = wire::fd(10, number as u16, &[*byte]);
+        capture.extend(&packet);
         if rng.chance(1) {
-            capture.extend(wire::fd(10, number as u16, &[*byte]));
+            capture.extend(&packet);
+        }
+        if rng.chance(1) {
+            capture.extend(wire::fd_raw(10, number as u16, 1, !crc16(&[*byte]), &[*byte]));
         }
     }
-    for number in [0, 1, 0xFFFF] {
-        capture.extend(wire::fd(10, number, &[1]));
+    let last = image.bytes[BENCH_AREA - 1];
+    for number in [0, 1, 0xFFFE, 0xFFFF] {
+        capture.extend(wire::fd(10, number, &[last]));
     }
+    capture.extend(wire::fd_raw(10, 0xFFFF, 1, !crc16(&[last]), &[last]));
+    capture.extend(wire::fd(10, 0xFFFF, &[!last]));
+    capture.extend(wire::fd(10, 0xFFFF, &[last]));
     capture.extend(wire::fe(10));
+    capture.extend(wire::fd(10, 0xFFFF, &[last]));
     capture.extend(wire::fb(10, &image));
     capture.extend(wire::fc(10, BENCH_AREA as u32));
-    capture.extend(wire::fd(10, 0, &[1]));
+    capture.extend(wire::fd(10, 0xFFFF, &[last]));
+    capture.extend(wire::fd(10, 0, &[last]));
     capture.extend(wire::fe(10));
     capture.extend(wire::fb(10, &image));
     capture.extend(wire::fc(10, 1));

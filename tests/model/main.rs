@@ -1,5 +1,5 @@
-//! The model: an independent receiver written from document 01, its replay
-//! program, and the captures to compare another replay program with.
+//! The model: an independent receiver written from document 01 and 02's K1 and
+//! K2, its replay program, and the captures to compare another one with.
 //!
 //! Build: `rustc -O --edition 2021 main.rs -o model`. See `USAGE` for the modes.
 

@@ -1,5 +1,6 @@
 //! Self-tests: the bench frames of 01, the check sums, round trips, live
-//! reading against its wording, the outcomes a replay cannot show.
+//! reading against its wording, packets sent again (document 02, K2), the
+//! outcomes a replay cannot show.
 
 use crate::crc::{crc16, crc32};
 use crate::frame::{self, judge, parse, Front, MAX_DATA, MAX_FRAME};
@@ -51,6 +52,9 @@ pub fn run() -> bool {
     refused_calls(&mut tally);
     lawful_records(&mut tally);
     two_boards(&mut tally);
+    repeated_packets(&mut tally);
+    last_packet_kept_and_forgotten(&mut tally);
+    repeated_or_not(&mut tally);
     last_number(&mut tally);
     println!("selftest: {} checks, {} failed", tally.checks, tally.failed);
     tally.failed == 0
@@ -109,6 +113,22 @@ impl Desk {
         Desk { receiver: bench_receiver(), area: vec![0; BENCH_AREA] }
     }
 
+    /// The bench desk with a leg open for this image, agreed size 64, and packets
+    /// of these lengths in.
+    fn receiving(image: &Image, packets: &[usize]) -> Self {
+        let mut desk = Desk::new();
+        desk.send(&wire::fa(10, 64));
+        desk.send(&wire::fb(10, image));
+        desk.send(&wire::fc(10, 0));
+        let mut start = 0;
+        for (number, n) in packets.iter().enumerate() {
+            desk.send(&wire::fd(10, number as u16, &image.bytes[start..start + n]));
+            start += n;
+        }
+        assert_eq!(desk.receiver.session().stored as usize, start, "all packets are in");
+        desk
+    }
+
     fn send(&mut self, frame: &[u8]) -> (u8, Vec<u8>) {
         let mut room = [0xEE; REPLY_ROOM + 5];
         let report = self.receiver.feed(frame, &mut self.area, &mut room);
@@ -138,8 +158,7 @@ fn bench_frames(t: &mut Tally) {
     t.same("P6", desk.send(&unhex(P6)), (0, unhex(P6)));
     t.same("P7 as written", hex(&wire::fd(10, 0, b"123456789")), hex(&unhex(P7)));
     t.same("P8", desk.send(&unhex(P7)), (0, unhex(P8)));
-    let again = unhex("55 AA 00 FD 00 02 0A 01 09");
-    t.same("P8 again", desk.send(&unhex(P7)), (0, again));
+    t.same("P8 again", desk.send(&unhex(P7)), (0, unhex(P8)));
     t.same("the area", &desk.area[..10], b"123456789\0");
     let done = unhex("55 AA 00 FE 00 02 0A 00 09");
     t.same("FE after P7", desk.send(&unhex(P1)), (0, done));
@@ -460,6 +479,7 @@ fn lawful_records(t: &mut Tally) {
         packet_size: 16,
         next_number: NO_NEXT_NUMBER,
         stored: 100,
+        last_packet: 100,
         identity,
     };
     let mut check = |what: &str, lawful: bool, change: fn(&mut Session)| {
@@ -470,6 +490,15 @@ fn lawful_records(t: &mut Tally) {
     };
     check("an open leg", true, |_| {});
     check("stored above announced", false, |s| s.stored = 101);
+    check("last packet's length above stored", false, |s| s.last_packet = 101);
+    check("... in idle too", false, |s| (s.phase, s.stored) = (Phase::Idle, 99));
+    check("last packet's length 512, above the agreed size", true, |s| {
+        (s.last_packet, s.stored, s.identity.length) = (512, 512, 600)
+    });
+    check("last packet's length 513", false, |s| {
+        (s.last_packet, s.stored, s.identity.length) = (513, 600, 600)
+    });
+    check("last packet's length 0", true, |s| s.last_packet = 0);
     check("announced the area's", true, |s| s.identity.length = 65_536);
     check("announced above the area's", false, |s| s.identity.length = 65_537);
     check("... in idle too", false, |s| (s.phase, s.identity.length) = (Phase::Idle, 65_537));
@@ -481,13 +510,13 @@ fn lawful_records(t: &mut Tally) {
     check("agreed size 0, idle", true, |s| (s.phase, s.packet_size) = (Phase::Idle, 0));
     check("agreed size 512", true, |s| s.packet_size = 512);
     check("announced 0, asked", true, |s| {
-        (s.phase, s.stored, s.identity.length) = (Phase::Asked, 0, 0)
+        (s.phase, s.stored, s.last_packet, s.identity.length) = (Phase::Asked, 0, 0, 0)
     });
     check("announced 0, told", false, |s| {
-        (s.phase, s.stored, s.identity.length) = (Phase::Told, 0, 0)
+        (s.phase, s.stored, s.last_packet, s.identity.length) = (Phase::Told, 0, 0, 0)
     });
     check("announced 0, done", false, |s| {
-        (s.phase, s.stored, s.identity.length) = (Phase::Done, 0, 0)
+        (s.phase, s.stored, s.last_packet, s.identity.length) = (Phase::Done, 0, 0, 0)
     });
     check("identity of another channel", true, |s| s.identity.channel = 99);
 }
@@ -514,6 +543,8 @@ fn two_boards(t: &mut Tally) {
     t.same("FC on 10", state(desk.send(&wire::fc(10, 0))), (0, Some(0)));
     t.same("FD on another channel", state(desk.send(&wire::fd(12, 0, b"abcd"))), (0, Some(4)));
     t.same("FD on 10", state(desk.send(&wire::fd(10, 0, b"abcd"))), (0, Some(0)));
+    t.same("FD on 10 again", state(desk.send(&wire::fd(10, 0, b"abcd"))), (0, Some(0)));
+    t.same("... on another channel", state(desk.send(&wire::fd(12, 0, b"abcd"))), (0, Some(4)));
     t.same("FE on another channel", state(desk.send(&wire::fe(12))), (0, Some(3)));
     t.same("no permit: flag 1 again", state(desk.send(&wire::fa(19, 512))), (0, Some(1)));
     t.same("FE on 10, incomplete", state(desk.send(&wire::fe(10))), (0, Some(1)));
@@ -529,20 +560,239 @@ fn two_boards(t: &mut Tally) {
     t.same("12's image is another one", &reply[6..16], &[12, 0, 0, 0, 0, 0, 0, 0, 0, 0][..]);
 }
 
-/// "After number 65,535 no packet is next."
+/// Sends an FD that must get this state and change neither record nor area.
+fn refused_or_repeated(t: &mut Tally, desk: &mut Desk, what: &str, frame: &[u8], state: u8) {
+    let (session, area) = (desk.receiver.session().clone(), desk.area.clone());
+    t.same(what, desk.send(frame), (0, wire::frame(0x00, 0xFD, &[10, state])));
+    t.same(&format!("{what}: the record stays"), desk.receiver.session(), &session);
+    t.holds(&format!("{what}: the area stays"), desk.area == area);
+}
+
+/// Sixty bytes, no two alike.
+fn sixty() -> Image {
+    Image::new([1, 0, 3], 1, (0..60).map(|place| place * 4 + 3).collect())
+}
+
+/// Document 02, K2: a packet whose reply was lost, and what is not that packet.
+fn repeated_packets(t: &mut Tally) {
+    let image = sixty();
+    let bytes = &image.bytes[..];
+    let last = &bytes[20..32];
+    let again = wire::fd(10, 1, last);
+    let raw = |number, n, crc, bytes: &[u8]| wire::fd_raw(10, number, n, crc, bytes);
+    let changed = |place: usize| {
+        let mut bytes = last.to_vec();
+        bytes[place] ^= 0x10;
+        bytes
+    };
+    let mut desk = Desk::receiving(&image, &[20, 12]);
+    let mut check = |what: &str, frame: &[u8], state| {
+        refused_or_repeated(t, &mut desk, what, frame, state);
+    };
+    check("packet 1 again", &again, 0);
+    check("... a second time", &again, 0);
+    check("... a third time", &again, 0);
+    check("again, CRC-16 wrong", &raw(1, 12, !crc16(last), last), 3);
+    check("... and right once more", &again, 0);
+    check("again, first byte another", &wire::fd(10, 1, &changed(0)), 1);
+    check("again, last byte another", &wire::fd(10, 1, &changed(11)), 1);
+    check("... CRC-16 wrong too: 01", &raw(1, 12, crc16(last), &changed(11)), 1);
+    check("the area's last 11 bytes", &wire::fd(10, 1, &bytes[21..32]), 1);
+    check("the area's last 13 bytes", &wire::fd(10, 1, &bytes[19..32]), 1);
+    check("all 32 bytes stored", &wire::fd(10, 1, &bytes[..32]), 1);
+    for there in [21..32, 20..31, 19..32, 20..33] {
+        let what = format!("n 12, bytes {there:?} there");
+        let there = &bytes[there];
+        check(&what, &raw(1, 12, crc16(there), there), 1);
+    }
+    check("n 11, 12 bytes there", &raw(1, 11, crc16(last), last), 1);
+    check("n 13, 12 bytes there", &raw(1, 13, crc16(last), last), 1);
+    check("n 12 + 256, 12 bytes there", &raw(1, 12 + 256, crc16(last), last), 1);
+    check("no bytes", &wire::fd(10, 1, &[]), 1);
+    check("packet 0, two back", &wire::fd(10, 0, &bytes[..20]), 1);
+    check("packet 1's bytes as 0", &wire::fd(10, 0, last), 1);
+    check("packet 1's bytes as 3", &wire::fd(10, 3, last), 1);
+    check("packet 0's last bytes as 1", &wire::fd(10, 1, &bytes[8..20]), 1);
+    check("the next, CRC-16 wrong", &raw(2, 8, !crc16(&bytes[32..40]), &bytes[32..40]), 3);
+    check("the next, too long", &wire::fd(10, 2, &[0; 29]), 2);
+    check("packet 1 after refused ones", &again, 0);
+    let (outcome, reply) = desk.send(&wire::fe(10));
+    t.same("FE, incomplete", (outcome, reply[7]), (0, 1));
+    refused_or_repeated(t, &mut desk, "packet 1 after FE", &again, 0);
+    let (outcome, reply) = desk.send(&wire::fa(10, 15));
+    t.same("FA, flag 1", (outcome, reply[7]), (0, 1));
+    refused_or_repeated(t, &mut desk, "packet 1 after a flag 1", &again, 0);
+
+    t.same("packet 2", desk.send(&wire::fd(10, 2, &bytes[32..])).1[7], 0);
+    t.same("stored", desk.receiver.session().stored, 60);
+    refused_or_repeated(t, &mut desk, "packet 1, two back now", &again, 1);
+    let again = wire::fd(10, 2, &bytes[32..]);
+    refused_or_repeated(t, &mut desk, "packet 2 again, nothing is missing", &again, 0);
+    let wrong = raw(2, 28, 0, &bytes[32..]);
+    refused_or_repeated(t, &mut desk, "... its CRC-16 wrong", &wrong, 3);
+    t.same("FE", desk.send(&wire::fe(10)).1[7], 0);
+    refused_or_repeated(t, &mut desk, "packet 2 again in done", &again, 4);
+}
+
+/// "The record gains the last packet's length, 0 after FC and whenever stored
+/// becomes 0; while it is 0 the test never holds."
+fn last_packet_kept_and_forgotten(t: &mut Tally) {
+    let image = sixty();
+    let bytes = &image.bytes[..];
+    let again = wire::fd(10, 1, &bytes[20..32]);
+    let fields = |desk: &Desk| {
+        let session = desk.receiver.session();
+        (session.phase, session.stored, session.last_packet)
+    };
+    t.same("a fresh record", fields(&Desk::new()), (Phase::Idle, 0, 0));
+
+    let mut desk = Desk::receiving(&image, &[20, 12]);
+    t.same("two packets in", fields(&desk), (Phase::Receiving, 32, 12));
+    desk.send(&wire::fc(10, 32));
+    t.same("FC at stored", fields(&desk), (Phase::Receiving, 32, 0));
+    refused_or_repeated(t, &mut desk, "packet 1 after FC at stored", &again, 1);
+    let below_none = wire::fd(10, 0xFFFF, &bytes[20..32]);
+    refused_or_repeated(t, &mut desk, "no number is below 0", &below_none, 1);
+    let nothing = wire::fd(10, 0xFFFF, &[]);
+    refused_or_repeated(t, &mut desk, "no bytes, below 0", &nothing, 1);
+    desk.send(&wire::fd(10, 0, &bytes[32..36]));
+    t.same("a packet of the new leg", fields(&desk), (Phase::Receiving, 36, 4));
+    let again_0 = wire::fd(10, 0, &bytes[32..36]);
+    refused_or_repeated(t, &mut desk, "... sent again", &again_0, 0);
+    desk.send(&wire::fc(10, 35));
+    t.same("FC not at stored", fields(&desk), (Phase::Receiving, 0, 0));
+    refused_or_repeated(t, &mut desk, "packet 1 after that", &again, 1);
+
+    let mut desk = Desk::receiving(&image, &[20, 12]);
+    desk.send(&wire::fa(10, 16));
+    t.same("FA keeps it", fields(&desk), (Phase::Asked, 32, 12));
+    refused_or_repeated(t, &mut desk, "packet 1 in asked", &again, 4);
+    desk.send(&wire::fb(10, &image));
+    t.same("FB keeps it, same identity", fields(&desk), (Phase::Told, 32, 12));
+    refused_or_repeated(t, &mut desk, "packet 1 in told", &again, 4);
+    let refused = Image { length: 0, ..image.clone() };
+    desk.send(&wire::fb(10, &refused));
+    t.same("a refused FB keeps it", fields(&desk), (Phase::Idle, 32, 12));
+    desk.send(&wire::fa(10, 16));
+    desk.send(&wire::fb(10, &image));
+    desk.send(&wire::fc(10, 32));
+    t.same("FC of the resumed leg", fields(&desk), (Phase::Receiving, 32, 0));
+    refused_or_repeated(t, &mut desk, "packet 1 in the resumed leg", &again, 1);
+
+    let mut desk = Desk::receiving(&image, &[20, 12]);
+    let other = Image { md5: [2; 16], ..image.clone() };
+    desk.send(&wire::fb(10, &other));
+    t.same("another identity", fields(&desk), (Phase::Told, 0, 0));
+
+    let bad = Image { crc32: !image.crc32, ..image.clone() };
+    let mut desk = Desk::receiving(&bad, &[20, 40]);
+    desk.send(&wire::fe(10));
+    t.same("a failed end check", fields(&desk), (Phase::Idle, 0, 0));
+    let mut desk = Desk::receiving(&image, &[20, 40]);
+    desk.send(&wire::fe(10));
+    t.same("a passed one keeps it", fields(&desk), (Phase::Done, 60, 40));
+}
+
+/// FD in receiving on all lawful corners of the record, some of which no leg
+/// leads to: next number, last packet's length and stored against number, n,
+/// bytes there, bytes right and CRC-16 right.
+fn repeated_or_not(t: &mut Tally) {
+    let image = Image::new([1, 0, 3], 1, (0..100).collect());
+    let stored = 85; // 15 bytes are missing, one less than the agreed size
+    let mut desk = Desk::new();
+    let session = |next_number, last_packet| Session {
+        phase: Phase::Receiving,
+        channel: 10,
+        packet_size: 16,
+        next_number,
+        stored: stored as u32,
+        last_packet,
+        identity: Identity { length: image.length, ..Identity::default() },
+    };
+    let mut states = [0_usize; 5];
+    for (next, last) in [0, 1, 2, 0x100, 0xFFFF, NO_NEXT_NUMBER]
+        .into_iter()
+        .flat_map(|next| [0, 1, 15, 16, 40].map(|last: u16| (next, last)))
+    {
+        for (number, n) in [0, 1, 2, 0xFF, 0x100, 0xFFFE, 0xFFFF]
+            .into_iter()
+            .flat_map(|number| [0, 1, 14, 15, 16, 17, 40, 41].map(|n: u16| (number, n)))
+        {
+            for (there, right_bytes, right_crc) in [0, 1, 14, 15, 16, 17, 40, 41]
+                .into_iter()
+                .flat_map(|there| [true, false].map(|right| (there, right)))
+                .flat_map(|(there, right)| [true, false].map(|crc| (there, right, crc)))
+            {
+                let mut bytes = image.bytes[stored - there..stored].to_vec();
+                if let (Some(first), false) = (bytes.first_mut(), right_bytes) {
+                    *first ^= 0x80;
+                }
+                let crc = if right_crc { crc16(&bytes) } else { !crc16(&bytes) };
+                let repeated = last > 0
+                    && next == u32::from(number) + 1
+                    && n == last
+                    && there == usize::from(last)
+                    && right_bytes;
+                let wanted = if repeated && right_crc {
+                    0
+                } else if repeated {
+                    3
+                } else if u32::from(number) != next {
+                    1
+                } else if usize::from(n) != there || n == 0 || n > 15 {
+                    2
+                } else if !right_crc {
+                    3
+                } else {
+                    0
+                };
+                states[wanted] += 1;
+
+                desk.receiver.session = session(next, last);
+                desk.area[..100].copy_from_slice(&image.bytes);
+                let frame = wire::fd_raw(10, number, n, crc, &bytes);
+                let mut after = session(next, last);
+                let mut area = image.bytes.clone();
+                if wanted == 0 && !repeated {
+                    area[stored..stored + there].copy_from_slice(&bytes);
+                    after.stored += u32::from(n);
+                    after.next_number += 1;
+                    after.last_packet = n;
+                }
+                let (_, reply) = desk.send(&frame);
+                let got =
+                    (reply.get(7).copied(), desk.receiver.session().clone(), &desk.area[..100]);
+                let wanted = (Some(wanted as u8), after, &area[..]);
+                t.same("an FD on a corner", got, wanted);
+            }
+        }
+    }
+    t.holds("states 00 to 03 all turn up", states[..4].iter().all(|&count| count > 20));
+}
+
+/// "After number 65,535 no packet is next", but it is the one below 65,536.
 fn last_number(t: &mut Tally) {
     let capture = generate(LONG_KIND, 5).unwrap();
     let text = replayed(&capture);
-    let states: Vec<&str> = text.lines().filter(|line| line.contains(" FD ")).collect();
-    let written = states.iter().filter(|line| line.ends_with("0A0008")).count();
-    t.same("packets written", written, 65_536 + 1);
-    let lines: Vec<&str> = text.lines().collect();
-    let tail: Vec<&str> =
-        lines[lines.len() - 13..].iter().map(|line| &line[line.len() - 4..]).collect();
-    // FD 0, 1, 65,535: 01; FE 00; FB; FC; FD 02; FE 00; FB; FC; FD 00.
-    t.same("numbers after the last", &tail[..4], &["0008", "0109", "0109", "0109"][..]);
-    t.same("FE, full area", tail[4], "0009");
-    t.same("FD past the end", tail[7], "020A");
-    t.same("FE again", tail[8], "0009");
-    t.same("FD after the reset", tail[11], "0008");
+    let ends: Vec<&str> = text
+        .lines()
+        .filter(|line| !line.starts_with("end"))
+        .map(|line| &line[line.len() - 4..])
+        .collect();
+    let (body, tail) = ends.split_at(ends.len() - 17);
+    let count = |end: &str| body.iter().filter(|&&other| other == end).count();
+    // FA, FB and FC; then a packet of each number, some sent again.
+    let (right, wrong) = (count("0008"), count("030B"));
+    t.same("nothing else", 3 + right + wrong, body.len());
+    t.holds("packets again", right > 65_536 + 30 && wrong > 30);
+    let after_the_last = [
+        "0109", "0109", "0109", "0008", // FD 0, 1, 65,534; 65,535 again
+        "030B", "0109", "0008", // its CRC-16 wrong; another byte; again
+        "0009", "040C", // FE; in done
+    ];
+    t.same("numbers after the last", &tail[..9], &after_the_last[..]);
+    // FB, FC at stored
+    t.same("a new leg: 65,535; 0, past the end; FE", &tail[11..14], &["0109", "020A", "0009"][..]);
+    // FB, FC at 1
+    t.same("FD after the reset", tail[16], "0008");
 }

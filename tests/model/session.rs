@@ -1,6 +1,7 @@
 //! The session: what the controller answers to each frame of the module.
 //!
-//! 01, "How the session answers", and its tables.
+//! 01, "How the session answers", and its tables; document 02, K2, where a
+//! packet is sent again.
 
 use crate::crc::{crc16, crc32};
 use crate::frame::{self, Frame};
@@ -95,6 +96,9 @@ pub struct Session {
     pub packet_size: u16,
     pub next_number: u32,
     pub stored: u32,
+    /// The length of the packet accepted last in this leg, "0 after FC and
+    /// whenever stored becomes 0" (document 02, K2).
+    pub last_packet: u16,
     pub identity: Identity,
 }
 
@@ -188,7 +192,7 @@ enum FileState {
 #[derive(Clone, Copy, Debug, PartialEq, Eq)]
 #[repr(u8)]
 enum PacketState {
-    Written = 0x00,
+    Accepted = 0x00,
     WrongNumber = 0x01,
     WrongLength = 0x02,
     WrongCrc = 0x03,
@@ -307,7 +311,7 @@ impl Session {
         self.phase = Phase::Told;
         if info.identity != self.identity {
             self.identity = info.identity;
-            self.stored = 0;
+            self.forget_stored();
         }
         Ok(state)
     }
@@ -328,42 +332,62 @@ impl Session {
 
     /// FC: "phase told or receiving, session's channel; else outcome 10. If
     /// offset equals stored, the reply is that offset. Otherwise stored becomes
-    /// 0 and the reply is 0. Phase receiving, next number 0."
+    /// 0 and the reply is 0. Phase receiving, next number 0." A leg begins: no
+    /// packet is accepted in it yet, even where stored stays.
     fn offset(&mut self, channel: u8, offset: u32) -> Result<u32, Refusal> {
         if !matches!(self.phase, Phase::Told | Phase::Receiving) || channel != self.channel {
             return Err(Refusal::OutOfTurn);
         }
         if offset != self.stored {
-            self.stored = 0;
+            self.forget_stored();
         }
         self.phase = Phase::Receiving;
         self.next_number = 0;
+        self.last_packet = 0;
         Ok(self.stored)
     }
 
-    /// FD: judged first; only a sound packet is written, "from place stored on,
-    /// into that part of the area only; stored grows by n, next number by 1.
+    /// FD: "not receiving or not the session's channel, 04". Between 04 and 01 a
+    /// packet sent again: its CRC-16 "must be right, else 03", and it changes
+    /// nothing. Then all others; only a sound one is written, "from place stored
+    /// on, into that part of the area only; stored grows by n, next number by 1.
     /// After number 65,535 no packet is next."
     fn packet(&mut self, packet: &Packet<'_>, area: &mut [u8]) -> PacketState {
-        let state = self.judge_packet(packet);
-        if state == PacketState::Written {
+        if self.phase != Phase::Receiving || packet.channel != self.channel {
+            return PacketState::NotReceiving;
+        }
+        if self.is_repeated(packet, area) {
+            return packet.judge_crc();
+        }
+        let state = self.judge_next(packet);
+        if state == PacketState::Accepted {
             let start = self.stored as usize;
             area[start..start + packet.bytes.len()].copy_from_slice(packet.bytes);
             self.stored += u32::from(packet.announced);
             self.next_number += 1; // at most 65,536: that is no packet's number
+            self.last_packet = packet.announced;
         }
         state
     }
 
-    /// "In order: not receiving or not the session's channel, 04; number is not
-    /// the next, 01; n differs from L - 7, or n is 0, or above the agreed size,
-    /// or stored + n above announced, 02; CRC-16 wrong, 03. None of these
-    /// changes anything."
-    fn judge_packet(&self, packet: &Packet<'_>) -> PacketState {
+    /// Document 02, K2: "A packet whose number is one below the next, whose length
+    /// (n and L - 7 alike) is that of the packet accepted last in this leg and
+    /// whose bytes equal the area's last stored bytes"; while that length is 0,
+    /// none. Next number 0 has no number below it.
+    fn is_repeated(&self, packet: &Packet<'_>, area: &[u8]) -> bool {
+        self.last_packet != 0
+            && u32::from(packet.number) + 1 == self.next_number
+            && packet.announced == self.last_packet
+            && packet.bytes.len() == usize::from(self.last_packet)
+            && area[..self.stored as usize].ends_with(packet.bytes)
+    }
+
+    /// "number is not the next, 01; n differs from L - 7, or n is 0, or above the
+    /// agreed size, or stored + n above announced, 02; CRC-16 wrong, 03. None of
+    /// these changes anything."
+    fn judge_next(&self, packet: &Packet<'_>) -> PacketState {
         let n = packet.announced;
-        if self.phase != Phase::Receiving || packet.channel != self.channel {
-            PacketState::NotReceiving
-        } else if u32::from(packet.number) != self.next_number {
+        if u32::from(packet.number) != self.next_number {
             PacketState::WrongNumber
         } else if usize::from(n) != packet.bytes.len()
             || n == 0
@@ -371,10 +395,8 @@ impl Session {
             || u32::from(n) > self.identity.length - self.stored
         {
             PacketState::WrongLength
-        } else if crc16(packet.bytes) != packet.crc16 {
-            PacketState::WrongCrc
         } else {
-            PacketState::Written
+            packet.judge_crc()
         }
     }
 
@@ -391,7 +413,7 @@ impl Session {
         }
         if crc32(&area[..self.identity.length as usize]) != self.identity.crc32 {
             self.phase = Phase::Idle;
-            self.stored = 0;
+            self.forget_stored();
             self.identity = Identity::default();
             return EndState::Refused;
         }
@@ -399,13 +421,23 @@ impl Session {
         EndState::Accepted
     }
 
-    /// The session's part of "Outcome 9 is given exactly when".
+    /// Stored becomes 0, and with it the last packet's length.
+    fn forget_stored(&mut self) {
+        self.stored = 0;
+        self.last_packet = 0;
+    }
+
+    /// The session's part of "Outcome 9 is given exactly when", and of K2's "also
+    /// given if it is above 512 or above stored". The agreed size is no bound for
+    /// the last packet: FA may agree on a smaller one.
     pub fn lawful(&self, boards: &BoardList, area_len: usize) -> bool {
         let announced = self.identity.length;
         let leg_open = matches!(self.phase, Phase::Told | Phase::Receiving | Phase::Done);
         self.stored <= announced
             && announced as usize <= area_len
             && self.next_number <= NO_NEXT_NUMBER
+            && self.last_packet <= MAX_PACKET
+            && u32::from(self.last_packet) <= self.stored
             && (self.phase == Phase::Idle
                 || (boards.find(self.channel).is_some()
                     && (MIN_PACKET..=MAX_PACKET).contains(&self.packet_size)))
@@ -443,6 +475,15 @@ impl<'a> Packet<'a> {
         let announced = fields.number16();
         let crc16 = fields.number16();
         Packet { channel, number, announced, crc16, bytes: fields.0 }
+    }
+
+    /// The CRC-16, the last test, once all others are passed.
+    fn judge_crc(&self) -> PacketState {
+        if crc16(self.bytes) == self.crc16 {
+            PacketState::Accepted
+        } else {
+            PacketState::WrongCrc
+        }
     }
 }
 

@@ -3,7 +3,7 @@
 //! Each entry carries the line 01 asks for, written here by hand and not by
 //! the session; the self-test compares them with the replay.
 
-use crate::crc::crc32;
+use crate::crc::{crc16, crc32};
 use crate::wire::{self, fa, fb, fc, fd, fd_raw, fe, frame, Image};
 
 /// A piece of the capture: stray bytes (no line) or a frame with its line.
@@ -129,6 +129,9 @@ pub fn stored() -> Stored {
     full_packets(&mut s);
     failed_end_check(&mut s);
     bench_transfer(&mut s);
+    repeated_packets(&mut s);
+    repeats_and_legs(&mut s);
+    equal_packets(&mut s);
     frames_in_frames(&mut s);
     torn_end(&mut s);
     s
@@ -291,7 +294,11 @@ fn first_leg(s: &mut Stored) {
         0,
         "FD 0, 16 bytes: state 00; none of the above changed anything",
     );
-    s.packet(&fd(CHANNEL, 0, &bytes[..16]), 1, "FD 0 sent again: state 01");
+    s.packet(
+        &fd(CHANNEL, 0, &bytes[..16]),
+        0,
+        "FD 0 sent again (its reply was lost): state 00, nothing changes",
+    );
     s.ask(15, 1, "FA with flag 1 in receiving: changes nothing");
     s.packet(
         &fd(CHANNEL, 1, &bytes[16..32]),
@@ -325,6 +332,7 @@ fn done_and_after(s: &mut Stored) {
     let bytes = &image.bytes[..];
     s.end(0, "FE again in done: state 00 again");
     s.packet(&fd(CHANNEL, 1, &[0]), 4, "FD in done: state 04");
+    s.packet(&fd(CHANNEL, 0, &bytes[32..]), 4, "FD 0 sent again in done: state 04");
     s.no_reply(10, &fc(CHANNEL, 40), "FC in done: outcome 10");
     s.ask(15, 1, "FA with flag 1 in done: changes nothing");
     s.end(0, "FE: still done, state 00");
@@ -395,7 +403,14 @@ fn full_packets(s: &mut Stored) {
         0,
         "FD 0, 512 bytes, the longest frame (L 519 = 02 07): state 00",
     );
-    s.packet(&fd(CHANNEL, 1, &bytes[512..]), 0, "FD 1, 88 bytes: state 00");
+    s.packet(&fd(CHANNEL, 0, &bytes[..512]), 0, "FD 0 sent again, all 512 bytes: state 00");
+    s.ask(16, 0, "FA, Len1 16: agreed size 16, below the last packet's length, which stays 512");
+    s.tell(&image, 0, &bytes[..512], "FB, same identity: stored 512");
+    s.packet(&fd(CHANNEL, 0, &bytes[..512]), 4, "FD 0 sent again in told: state 04");
+    s.ask(512, 0, "FA, Len1 512");
+    s.tell(&image, 0, &bytes[..512], "FB, same identity: stored 512");
+    s.offset(512, 512, "FC at stored (512): granted");
+    s.packet(&fd(CHANNEL, 0, &bytes[512..]), 0, "FD 0, 88 bytes: state 00");
     s.end(0, "FE: state 00");
     s.ask(511, 0, "FA, Len1 511: agreed size 511");
     s.tell(&image, 0, &bytes, "FB, same identity: stored 600");
@@ -437,8 +452,171 @@ fn bench_transfer(s: &mut Stored) {
         "packet 0 with its CRC-16 low byte first, as on a Modbus line: state 03",
     );
     s.packet(&fd(CHANNEL, 0, b"123456789"), 0, "P7, P8: packet 0, text 123456789, CRC-16 4B37");
-    s.packet(&fd(CHANNEL, 0, b"123456789"), 1, "P7 sent again: state 01");
+    s.packet(&fd(CHANNEL, 0, b"123456789"), 0, "P8's second answer: P7 sent again, state 00");
     s.end(0, "FE: CRC-32 CBF43926, state 00");
+}
+
+/// Sixty bytes, no two alike, for packets that are sent again.
+fn sixty() -> Image {
+    Image::new([1, 0, 4], 0xA0, (0..60).map(|byte| byte * 4 + 3).collect())
+}
+
+/// Document 02, K2: the packet accepted last, and frames that are not quite it.
+fn repeated_packets(s: &mut Stored) {
+    let image = sixty();
+    let bytes = &image.bytes[..];
+    s.ask(20, 0, "FA, Len1 20");
+    s.tell(&image, 0, &[], "FB of 60 bytes, no two alike: state 00");
+    s.offset(0, 0, "FC at 0: granted");
+    s.packet(
+        &fd(CHANNEL, 0xFFFF, &[]),
+        1,
+        "FD 65,535, no bytes: no packet is accepted yet and no number is below 0, state 01",
+    );
+    s.packet(&fd(CHANNEL, 0, &bytes[..20]), 0, "FD 0, 20 bytes: state 00");
+    for time in ["once", "twice", "three times"] {
+        s.packet(&fd(CHANNEL, 0, &bytes[..20]), 0, &format!("FD 0 sent again {time}: state 00"));
+    }
+    s.packet(&fd(CHANNEL, 1, &bytes[20..32]), 0, "FD 1, 12 bytes: state 00, stored 32");
+
+    let last = &bytes[20..32];
+    let again = fd(CHANNEL, 1, last);
+    let crc = crc16(last);
+    let changed = |place: usize| {
+        let mut changed = last.to_vec();
+        changed[place] ^= 0x10;
+        changed
+    };
+    s.packet(&again, 0, "FD 1 sent again: state 00");
+    s.packet(&fd_raw(CHANNEL, 1, 12, !crc, last), 3, "FD 1 again, CRC-16 wrong: state 03");
+    s.packet(&again, 0, "FD 1 again, right: state 00");
+    s.packet(&fd(CHANNEL, 1, &changed(0)), 1, "FD 1 again, its first byte another: state 01");
+    s.packet(&fd(CHANNEL, 1, &changed(11)), 1, "FD 1 again, its last byte another: state 01");
+    s.packet(
+        &fd_raw(CHANNEL, 1, 12, crc, &changed(6)),
+        1,
+        "FD 1 again, a byte another and so the CRC-16 wrong: 01, not 03",
+    );
+    s.packet(&fd(CHANNEL, 1, &bytes[21..32]), 1, "FD 1, only its last 11 bytes: state 01");
+    s.packet(&fd(CHANNEL, 1, &bytes[19..32]), 1, "FD 1, the last 13 bytes stored: state 01");
+    s.packet(&fd(CHANNEL, 1, &bytes[..20]), 1, "FD 1 with FD 0's bytes and length: state 01");
+    s.packet(&fd(CHANNEL, 1, &bytes[8..20]), 1, "FD 1 with FD 0's last 12 bytes: state 01");
+    s.packet(&fd_raw(CHANNEL, 1, 11, crc, last), 1, "FD 1 again, n 11, 12 there: state 01");
+    s.packet(&fd_raw(CHANNEL, 1, 13, crc, last), 1, "FD 1 again, n 13, 12 there: state 01");
+    for (there, what) in [
+        (21..32, "its last 11 bytes"),
+        (20..31, "its first 11 bytes"),
+        (19..32, "the last 13 bytes stored"),
+        (20..33, "its bytes and one more"),
+    ] {
+        let there = &bytes[there];
+        s.packet(
+            &fd_raw(CHANNEL, 1, 12, crc16(there), there),
+            1,
+            &format!("FD 1, n 12, but {what} there: state 01"),
+        );
+    }
+    s.packet(&fd(CHANNEL, 1, &[]), 1, "FD 1, no bytes: state 01");
+    s.packet(&fd(CHANNEL, 0, &bytes[..20]), 1, "FD 0 again, two packets back: state 01");
+    s.packet(&fd(CHANNEL, 0, last), 1, "FD 0 with FD 1's bytes: state 01");
+    s.packet(&fd(CHANNEL, 3, last), 1, "FD 3, one above the next, with FD 1's bytes: state 01");
+
+    s.packet(&fd_raw(CHANNEL, 2, 8, 0, &bytes[32..40]), 3, "FD 2, 8 bytes, CRC-16 wrong: state 03");
+    s.packet(&fd(CHANNEL, 2, &bytes[32..53]), 2, "FD 2, 21 bytes, above the agreed 20: state 02");
+    s.packet(&again, 0, "FD 1 again: refused packets are not the last one, state 00");
+    s.end(1, "FE with 32 of 60 stored: state 01");
+    s.ask(15, 1, "FA with flag 1");
+    s.no_reply(0, &wire::f9(0), "F9");
+    s.packet(&again, 0, "FD 1 again after all these: state 00");
+    s.stray(&again[..17], "FD 1 again, torn after 17 of 26 bytes ...");
+    s.packet(&again, 0, "... and whole: state 00");
+    let (&sum, body) = again.split_last().expect("a frame has a sum");
+    s.stray(&[body, &[sum ^ 1]].concat(), "FD 1 again with a wrong sum: no frame");
+    s.packet(
+        &fd(CHANNEL, 2, &bytes[32..52]),
+        0,
+        "FD 2, 20 bytes: state 00, nothing had changed number or stored",
+    );
+    s.packet(&again, 1, "FD 1 again: two packets back now, state 01");
+    s.packet(&fd(CHANNEL, 2, &bytes[32..52]), 0, "FD 2 sent again: state 00, stored 52");
+}
+
+/// FC begins a leg in which no packet is accepted yet.
+fn repeats_and_legs(s: &mut Stored) {
+    let image = sixty();
+    let bytes = &image.bytes[..];
+    let before = fd(CHANNEL, 2, &bytes[32..52]);
+    s.offset(52, 52, "FC in receiving at stored (52): granted, next number 0");
+    s.packet(&before, 1, "FD 2 again: not of this leg, state 01");
+    s.packet(
+        &fd(CHANNEL, 0xFFFF, &bytes[32..52]),
+        1,
+        "its bytes as FD 65,535: no number is below 0, state 01",
+    );
+    let last = fd(CHANNEL, 0, &bytes[52..]);
+    s.packet(&last, 0, "FD 0, the last 8 bytes: state 00, stored 60");
+    s.packet(&last, 0, "FD 0 sent again: state 00, though no byte is missing");
+    s.packet(
+        &fd_raw(CHANNEL, 0, 8, 0, &bytes[52..]),
+        3,
+        "FD 0 again, CRC-16 wrong: 03, though no byte is missing",
+    );
+    s.packet(&before, 1, "FD 2 again, of the leg before: state 01");
+    s.end(0, "FE: state 00, the area's bytes are right");
+    s.packet(&last, 4, "FD 0 sent again in done: state 04");
+    s.ask(20, 0, "FA, Len1 20");
+    s.packet(&last, 4, "FD 0 sent again in asked: state 04");
+    s.tell(&image, 0, bytes, "FB, same identity: stored 60");
+    s.packet(&last, 4, "FD 0 sent again in told: state 04");
+    s.offset(60, 60, "FC at stored (60): granted");
+    s.packet(&last, 2, "FD 0: not sent again but the next, 8 bytes too many: state 02");
+    s.offset(59, 0, "FC smaller than stored (59, 60): reset, reply 0");
+    s.packet(&fd(CHANNEL, 0, &bytes[..20]), 0, "FD 0, 20 bytes: state 00");
+    s.packet(&fd(CHANNEL, 1, &bytes[20..40]), 0, "FD 1, 20 bytes: state 00");
+    s.offset(0, 0, "FC at 0, not at stored (40): reset, reply 0");
+    s.packet(
+        &fd(CHANNEL, 1, &bytes[20..40]),
+        1,
+        "FD 1 again, its bytes still in the area: state 01",
+    );
+    s.packet(&fd(CHANNEL, 0, &bytes[..20]), 0, "FD 0, 20 bytes, written anew: state 00");
+    s.tell(&image, 0, &bytes[..20], "FB, same identity: stored 20");
+    s.offset(20, 20, "FC at stored (20): granted");
+    s.packet(
+        &fd(CHANNEL, 0, &bytes[..20]),
+        0,
+        "FD 0 of the leg before: now the next, so written at 20, state 00",
+    );
+    s.tell(
+        &image,
+        0,
+        &[&bytes[..20], &bytes[..20]].concat(),
+        "FB, same identity: stored 40, the 20 bytes twice",
+    );
+}
+
+/// Packets that only their numbers tell apart; the end check fails, and the leg
+/// after it knows of no packet.
+fn equal_packets(s: &mut Stored) {
+    let mut image = Image::new([1, 0, 5], 0xA1, vec![0x77; 48]);
+    image.crc32 ^= 1;
+    let packet = |number| fd(CHANNEL, number, &[0x77; 16]);
+    s.ask(16, 0, "FA, Len1 16");
+    s.tell(&image, 0, &[], "FB of 48 equal bytes, CRC-32 not theirs: another identity, stored 0");
+    s.offset(0, 0, "FC at 0: granted");
+    s.packet(&packet(0), 0, "FD 0, 16 bytes: state 00");
+    s.packet(&packet(1), 0, "FD 1, the same 16 bytes: state 00");
+    s.packet(&packet(0), 1, "FD 0 again, bytes and length as FD 1's: state 01");
+    s.packet(&packet(1), 0, "FD 1 sent again: state 00");
+    s.packet(&packet(2), 0, "FD 2, the same 16 bytes: state 00, stored 48");
+    s.end(3, "FE, CRC-32 differs: state 03, phase idle, stored 0");
+    s.packet(&packet(2), 4, "FD 2 again: idle, state 04");
+    s.ask(16, 0, "FA, Len1 16");
+    s.tell(&image, 0, &[], "FB: the identity is forgotten, stored 0");
+    s.offset(0, 0, "FC at stored (0): granted");
+    s.packet(&packet(2), 1, "FD 2 again: state 01");
+    s.packet(&packet(0), 0, "FD 0, 16 bytes: state 00");
+    s.packet(&packet(0), 0, "FD 0 sent again: state 00");
 }
 
 fn frames_in_frames(s: &mut Stored) {

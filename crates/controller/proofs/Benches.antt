@@ -15,7 +15,7 @@ use Rattle.transfer.specs.Identities.{same, newer, sameIdentity}
 use Rattle.transfer.specs.FA.{answerFA}
 use Rattle.transfer.specs.FB.{stateFB, afterFB, grantFB, answerFB}
 use Rattle.transfer.specs.FC.{answerFC}
-use Rattle.transfer.specs.FD.{stateFD, answerFD, writtenAt, areaFD}
+use Rattle.transfer.specs.FD.{repeats, stateFD, takes, answerFD, writtenAt, areaFD}
 use Rattle.transfer.specs.FE.{answerFE}
 use Rattle.session.specs.Boards.{placeOf, badList, listOf}
 use Rattle.session.specs.Opening.{freshSession, opened}
@@ -28,5 +28,5 @@ use Rattle.controller.specs.OutwardReport.{reportRefusal, reported, room
 use Rattle.controller.specs.Bench.{Row, Seen, got, table, areaSize}
 
 pub bench : map (got (zeros areaSize)) table ≡ map (λ r. r .wanted) table
-unfolding bit bits byte update finish checksum crc16-modbus crc32 unsummed encode frameAt frontOf finished writable writtenSize writtenRoom withFrame looking feedingCall fed find commandTable rowAt placeOfCommand headerOf requestFA requestFB requestFC requestFD packetOf replyFA replyFB replyFC replyState replyFrame hasReply replySize replyRoom same newer sameIdentity answerFA stateFB afterFB grantFB answerFB answerFC stateFD answerFD writtenAt areaFD answerFE placeOf badList listOf freshSession opened unlawful stepOf areaOf routed routedArea judged judgedArea answered areaAfter boardsBytes reportBytes reportFrame reportSize reportRoom unlawfulRecord openedRecord refusalOf finishedCall calledBy reportRefusal reported roomReported
+unfolding bit bits byte update finish checksum crc16-modbus crc32 unsummed encode frameAt frontOf finished writable writtenSize writtenRoom withFrame looking feedingCall fed find commandTable rowAt placeOfCommand headerOf requestFA requestFB requestFC requestFD packetOf replyFA replyFB replyFC replyState replyFrame hasReply replySize replyRoom same newer sameIdentity answerFA stateFB afterFB grantFB answerFB answerFC repeats stateFD takes answerFD writtenAt areaFD answerFE placeOf badList listOf freshSession opened unlawful stepOf areaOf routed routedArea judged judgedArea answered areaAfter boardsBytes reportBytes reportFrame reportSize reportRoom unlawfulRecord openedRecord refusalOf finishedCall calledBy reportRefusal reported roomReported
 bench = refl

@@ -108,7 +108,7 @@ abbrev pub fb9 : List ℕ
 fb9 = 0x55 ∷ 0xAA ∷ 0x10 ∷ 0xFB ∷ 0x00 ∷ 0x24 ∷ 0x0A ∷ zeros 8 ++ (1 ∷ 0 ∷ 3 ∷ zeros 16 ++ (0 ∷ 0 ∷ 0 ∷ 9 ∷ 0xCB ∷ 0xF4 ∷ 0x39 ∷ 0x26 ∷ 0x63 ∷ []))
 
 -- "P7 .. packet 0, text 123456789", which "carries 4B 37 and the sum 8E" (document 02, K1);
--- "P8 reply .., when sent again state 01, sum 09"
+-- "P8 reply ..", whose "second answer becomes 00" (K2): sent again it gets the same reply
 abbrev pub p7 : List ℕ
 p7 =
     0x55 ∷ 0xAA ∷ 0x10 ∷ 0xFD ∷ 0x00 ∷ 0x10 ∷ 0x0A ∷ 0x00 ∷ 0x00 ∷ 0x00 ∷ 0x09 ∷ 0x4B ∷ 0x37
@@ -117,10 +117,7 @@ p7 =
 abbrev pub p8 : List ℕ
 p8 = 0x55 ∷ 0xAA ∷ 0x00 ∷ 0xFD ∷ 0x00 ∷ 0x02 ∷ 0x0A ∷ 0x00 ∷ 0x08 ∷ []
 
-abbrev pub p8again : List ℕ
-p8again = 0x55 ∷ 0xAA ∷ 0x00 ∷ 0xFD ∷ 0x00 ∷ 0x02 ∷ 0x0A ∷ 0x01 ∷ 0x09 ∷ []
-
--- the end request after all nine bytes: success
+-- the end request after all nine bytes, sent once or twice: success
 abbrev pub success : List ℕ
 success = 0x55 ∷ 0xAA ∷ 0x00 ∷ 0xFE ∷ 0x00 ∷ 0x02 ∷ 0x0A ∷ 0x00 ∷ 0x09 ∷ []
 
@@ -152,8 +149,9 @@ table =
     ∷ row [] (feeds len16) 0 p4 10 0 0xFA 3
     ∷ row (p3 ∷ fb9 ∷ []) (feeds p6) 0 p6 12 0 0xFC 5
     ∷ row (p3 ∷ fb9 ∷ p6 ∷ []) (feeds p7) 0 p8 23 0 0xFD 16
-    ∷ row (p3 ∷ fb9 ∷ p6 ∷ p7 ∷ []) (feeds p7) 0 p8again 23 0 0xFD 16
+    ∷ row (p3 ∷ fb9 ∷ p6 ∷ p7 ∷ []) (feeds p7) 0 p8 23 0 0xFD 16
     ∷ row (p3 ∷ fb9 ∷ p6 ∷ p7 ∷ []) (feeds p1) 0 success 8 0 0xFE 1
+    ∷ row (p3 ∷ fb9 ∷ p6 ∷ p7 ∷ p7 ∷ []) (feeds p1) 0 success 8 0 0xFE 1
     ∷ row [] reports 0 p9 0 0 0 0
     ∷ row [] (feeds (stray10 ++ p1)) 0 p2 14 6 0xFE 1
     ∷ row [] (feeds (stray11 ++ p1)) 2 [] 7 0 0x56 0

@@ -20,17 +20,17 @@ use Rattle.transfer.specs.declared.phase.Phase.the-variants.{Idle, Told, Done}
 use Rattle.transfer.specs.declared.board.Board.{Board}
 use Rattle.transfer.specs.declared.state.Transfer.{Transfer}
 use Rattle.transfer.specs.declared.state.Step.{Step}
-use Rattle.transfer.specs.Phases.{idle, hasImage, toldOrReceiving, receivingOrDone}
+use Rattle.transfer.specs.Phases.{idle, hasImage, toldOrReceiving, receiving, receivingOrDone}
 use Rattle.transfer.specs.Identities.{same, newer, identityOf, sameIdentity}
 use Rattle.transfer.specs.Transfers.{maxNext, withPhase, otherChannel}
 use Rattle.transfer.specs.FA.{minPacket, refusedFA, agreedSize, answerFA}
 use Rattle.transfer.specs.FB.{stateFB, afterFB, grantFB, answerFB}
 use Rattle.transfer.specs.FC.{answerFC}
-use Rattle.transfer.specs.FD.{notReceivingHere, stateFD, answerFD, areaFD, writtenAt}
+use Rattle.transfer.specs.FD.{takes, answerFD, areaFD, writtenAt}
 use Rattle.transfer.specs.FE.{rightCrc, answerFE}
 use Rattle.transfer.proofs.Choices.{no-refusal, neither, of-both, of-each}
-use Rattle.transfer.proofs.PhaseLaws.{image-busy, started-image, ending-image}
-use Rattle.transfer.proofs.Packets.{taken-fits, taken-next, written-size}
+use Rattle.transfer.proofs.PhaseLaws.{image-busy, receiving-busy, started-image, ending-image}
+use Rattle.transfer.proofs.Packets.{taken, written-size}
 use Rattle.session.specs.declared.session.Session.{Session}
 use Rattle.session.specs.declared.answer.Answer.{Answer}
 use Rattle.session.specs.Boards.{pastBoard, placeOf}
@@ -57,8 +57,9 @@ module _ (s : Session) (k : Lawful s) where
   Kept x = Lawful (withTransfer s (x .transfer))
 
   -- idle, with lengths and number in order: nothing else is asked
-  idle-kept : (u : Transfer) → u .phase ≡ Idle → u .stored ≤ u .image .announced → u .image .announced ≤ s .opened → u .next ≤ maxNext → Lawful (withTransfer s u)
-  idle-kept u e stored announced number =
+  idle-kept : (u : Transfer) → u .phase ≡ Idle → u .stored ≤ u .image .announced → u .image .announced ≤ s .opened → u .next ≤ maxNext
+      → u .last ≤ maxPacket → u .last ≤ u .stored → Lawful (withTransfer s u)
+  idle-kept u e stored announced number most-last last-stored =
       let busy : idle (u .phase) ≡ false → ⊥ = λ f. false-true (sym f ∙ ap idle e) in
       let bare : hasImage (u .phase) ≡ true → ⊥ = λ f. false-true (sym (ap hasImage e) ∙ f) in
       record {
@@ -68,6 +69,8 @@ module _ (s : Session) (k : Lawful s) where
         stored = stored;
         announced = announced;
         number = number;
+        most-last = most-last;
+        last-stored = last-stored;
         listed = λ f. absurd (busy f);
         least-size = λ f. absurd (busy f);
         most-size = λ f. absurd (busy f);
@@ -76,8 +79,8 @@ module _ (s : Session) (k : Lawful s) where
 
   -- the same session's channel and agreed size, in whatever phase
   busy-kept : (u : Transfer) → idle (t .phase) ≡ false → u .channel ≡ t .channel → u .agreed ≡ t .agreed → u .stored ≤ u .image .announced → u .image .announced ≤ s .opened
-      → u .next ≤ maxNext → (hasImage (u .phase) ≡ true → 0 < u .image .announced) → Lawful (withTransfer s u)
-  busy-kept u i ch size stored announced number image =
+      → u .next ≤ maxNext → u .last ≤ maxPacket → u .last ≤ u .stored → (hasImage (u .phase) ≡ true → 0 < u .image .announced) → Lawful (withTransfer s u)
+  busy-kept u i ch size stored announced number most-last last-stored image =
       record {
         list = k .list;
         some-area = k .some-area;
@@ -85,6 +88,8 @@ module _ (s : Session) (k : Lawful s) where
         stored = stored;
         announced = announced;
         number = number;
+        most-last = most-last;
+        last-stored = last-stored;
         listed = λ f. subst (λ (c : ℕ). placeOf (s .boards) (s .count) c < s .count) (sym ch) (k .listed i);
         least-size = λ f. subst (λ (n : ℕ). minPacket ≤ n) (sym size) (k .least-size i);
         most-size = λ f. subst (λ (n : ℕ). n ≤ maxPacket) (sym size) (k .most-size i);
@@ -107,6 +112,8 @@ module _ (s : Session) (k : Lawful s) where
         stored = k .stored;
         announced = k .announced;
         number = k .number;
+        most-last = k .most-last;
+        last-stored = k .last-stored;
         listed = λ f. here;
         least-size = λ f. size .0;
         most-size = λ f. size .1;
@@ -140,9 +147,9 @@ module _ (s : Session) (k : Lawful s) where
       (λ z.
       let g = granted-length b r (length area) (eqb-true _ _ z) in
       of-each (λ (u : Transfer). Lawful (withTransfer s u)) (sameIdentity (identityOf r) (t .image)) _ _
-      (λ w. let n = same-announced r w in busy-kept (withPhase t Told) i refl refl (k .stored) (k .announced) (k .number) (λ f. omega arith))
-      (λ w. busy-kept _ i refl refl (omega arith) (omega arith) (k .number) (λ f. g .0)))
-      (λ z. idle-kept (withPhase t Idle) refl (k .stored) (k .announced) (k .number)))
+      (λ w. let n = same-announced r w in busy-kept (withPhase t Told) i refl refl (k .stored) (k .announced) (k .number) (k .most-last) (k .last-stored) (λ f. omega arith))
+      (λ w. busy-kept _ i refl refl (omega arith) (omega arith) (k .number) (omega arith) (omega arith) (λ f. g .0)))
+      (λ z. idle-kept (withPhase t Idle) refl (k .stored) (k .announced) (k .number) (k .most-last) (k .last-stored)))
 
   fc-kept : (r : RequestFC) → Kept (answerFC t r)
   unfolding answerFC
@@ -151,29 +158,33 @@ module _ (s : Session) (k : Lawful s) where
       (λ e.
       let h = started-image (t .phase) (not-false _ (neither (not (toldOrReceiving (t .phase))) _ e .0)) in
       let start = of-both (λ (n : ℕ). n ≤ t .image .announced) (eqb (r .offset) (t .stored)) (t .stored) 0 (k .stored) (omega arith) in
-      busy-kept _ (image-busy (t .phase) h) refl refl start (k .announced) (omega arith) (λ f. k .some-image h))
+      busy-kept _ (image-busy (t .phase) h) refl refl start (k .announced) (omega arith) (omega arith) (omega arith) (λ f. k .some-image h))
 
-  -- a packet's number has two bytes, so that the next one is at most 65,536
-  fd-kept : (r : RequestFD) (p : List ℕ) → r .number < maxNext → Kept (answerFD t r p)
+  -- a packet's number has two bytes, so that the next one is at most 65,536; its length is at most the agreed size
+  fd-kept : (r : RequestFD) (p area : List ℕ) → r .number < maxNext → Kept (answerFD t r p area)
   unfolding answerFD
-  fd-kept r p small =
-      of-each Kept (eqb (stateFD t r p) 0) _ _
-      (λ z.
-      let e = eqb-true (stateFD t r p) 0 z in
-      let number = taken-next t r p e in
+  fd-kept r p area small =
+      of-each (λ (u : Transfer). Lawful (withTransfer s u)) (takes t r p area) _ _
+      (λ e.
+      let taken-as = taken t r p area e in
+      let number = taken-as .number in
+      let size = taken-as .agreed in
+      let most = k .most-size (receiving-busy (t .phase) (not-false _ (neither (not (receiving (t .phase))) _ (taken-as .here) .0))) in
       record {
         list = k .list;
         some-area = k .some-area;
         small-area = k .small-area;
-        stored = taken-fits t r p e;
+        stored = taken-as .fits;
         announced = k .announced;
         number = omega arith;
+        most-last = omega arith;
+        last-stored = omega arith;
         listed = k .listed;
         least-size = k .least-size;
         most-size = k .most-size;
         some-image = k .some-image;
       })
-      (λ z. k)
+      (λ e. k)
 
   fe-kept : (channel : ℕ) (area : List ℕ) → Kept (answerFE t channel area)
   unfolding answerFE
@@ -183,8 +194,8 @@ module _ (s : Session) (k : Lawful s) where
       let h = ending-image (t .phase) (not-false _ (neither (not (receivingOrDone (t .phase))) _ e .0)) in
       of-both Kept (not (eqb (t .stored) (t .image .announced))) _ _ k
       (of-both Kept (rightCrc t area) _ _
-      (busy-kept (withPhase t Done) (image-busy (t .phase) h) refl refl (k .stored) (k .announced) (k .number) (λ f. k .some-image h))
-      (idle-kept _ refl (omega arith) (omega arith) (k .number))))
+      (busy-kept (withPhase t Done) (image-busy (t .phase) h) refl refl (k .stored) (k .announced) (k .number) (k .most-last) (k .last-stored) (λ f. k .some-image h))
+      (idle-kept _ refl (omega arith) (omega arith) (k .number) (omega arith) (omega arith))))
 
   step-kept : (f : FinishedFrame) (b : Board) (area : List ℕ) → length area ≡ s .opened → Bytes (f .bytes) → placeFor s f < s .count → Kept (stepOf t f b area)
   unfolding stepOf requestFA requestFD
@@ -194,7 +205,7 @@ module _ (s : Session) (k : Lawful s) where
       of-both Kept (eqb (f .command) 0xFA) _ _ (fa-kept b (requestFA (f .bytes)) here)
       (of-both Kept (eqb (f .command) 0xFB) _ _ (fb-kept b (requestFB (f .bytes)) area size)
       (of-both Kept (eqb (f .command) 0xFC) _ _ (fc-kept (requestFC (f .bytes)))
-      (of-both Kept (eqb (f .command) 0xFD) _ _ (fd-kept (requestFD (f .bytes)) (packetOf (f .length) (f .bytes)) (omega arith)) (fe-kept (channelOf (f .bytes)) area))))
+      (of-both Kept (eqb (f .command) 0xFD) _ _ (fd-kept (requestFD (f .bytes)) (packetOf (f .length) (f .bytes)) area (omega arith)) (fe-kept (channelOf (f .bytes)) area))))
 
 -- what every answer keeps
 pub record Keeps (s : Session) (a : Answer) : Type 0 where
@@ -235,8 +246,8 @@ area-size s f area =
     (of-both Same (eqb (f .command) 0xF9) _ _ refl
     (of-both Same (ltb (placeFor s f) (s .count)) _ _
     (of-both Same (eqb (f .command) 0xFD) _ _
-    (of-each Same (eqb (stateFD (s .transfer) r p) 0) _ _
-    (λ taken. written-size area p (s .transfer .stored) (omega (arith, taken-fits (s .transfer) r p (eqb-true _ _ taken))))
+    (of-each Same (takes (s .transfer) r p area) _ _
+    (λ it. written-size area p (s .transfer .stored) (omega (arith, taken (s .transfer) r p area it .fits)))
     (λ _. refl))
     refl)
     refl))))

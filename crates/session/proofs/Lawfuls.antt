@@ -17,7 +17,7 @@ use Rattle.transfer.proofs.PhaseLaws.{image-busy}
 use Rattle.session.specs.declared.session.Session.{Session}
 use Rattle.session.specs.Boards.{maxBoards, placeOf, badList}
 use Rattle.session.specs.Opening.{maxArea, badArea}
-use Rattle.session.specs.Lawful.{badLengths, badSize, badSessionFields, unlawful, Lawful}
+use Rattle.session.specs.Lawful.{badLengths, badLast, badSize, badSessionFields, unlawful, Lawful}
 
 pub list-fits : (bs : List Board) (n : ℕ) → badList bs n ≡ false → n ≤ maxBoards
 unfolding badList
@@ -64,9 +64,11 @@ lawful s e =
     let e1 = neither (badList (s .boards) (s .count)) _ e in
     let e2 = neither (badArea (s .opened)) _ (e1 .1) in
     let e3 = neither (badLengths t (s .opened)) _ (e2 .1) in
+    let e4 = neither (badLast t) _ (e3 .1) in
     let a1 = neither (ltb (s .opened) 1) _ (e2 .0) in
     let l1 = neither (ltb (t .image .announced) (t .stored)) _ (e3 .0) in
     let l2 = neither (ltb (s .opened) (t .image .announced)) _ (l1 .1) in
+    let l3 = neither (ltb maxPacket (t .last)) _ (e4 .0) in
     record {
       list = e1 .0;
       some-area = ltb-false (s .opened) 1 (a1 .0);
@@ -74,10 +76,12 @@ lawful s e =
       stored = ltb-false _ _ (l1 .0);
       announced = ltb-false _ _ (l2 .0);
       number = ltb-false _ _ (l2 .1);
-      listed = λ h. fields t (s .boards) (s .count) (e3 .1) h .listed;
-      least-size = λ h. fields t (s .boards) (s .count) (e3 .1) h .least;
-      most-size = λ h. fields t (s .boards) (s .count) (e3 .1) h .most;
-      some-image = λ k. fields t (s .boards) (s .count) (e3 .1) (image-busy (t .phase) k) .image k;
+      most-last = ltb-false _ _ (l3 .0);
+      last-stored = ltb-false _ _ (l3 .1);
+      listed = λ h. fields t (s .boards) (s .count) (e4 .1) h .listed;
+      least-size = λ h. fields t (s .boards) (s .count) (e4 .1) h .least;
+      most-size = λ h. fields t (s .boards) (s .count) (e4 .1) h .most;
+      some-image = λ k. fields t (s .boards) (s .count) (e4 .1) (image-busy (t .phase) k) .image k;
     }
 
 both-false : (a b : Bool) → a ≡ false → b ≡ false → (a || b) ≡ false
@@ -100,10 +104,11 @@ lawful-accepted s l =
     (both-false (badLengths t (s .opened)) _
     (both-false (ltb (t .image .announced) (t .stored)) _ (le-ltb _ _ (l .stored))
     (both-false (ltb (s .opened) (t .image .announced)) _ (le-ltb _ _ (l .announced)) (le-ltb _ _ (l .number))))
+    (both-false (badLast t) _ (both-false (ltb maxPacket (t .last)) _ (le-ltb _ _ (l .most-last)) (le-ltb _ _ (l .last-stored)))
     (cond-unless (idle (t .phase)) _ (λ h.
     both-false (not (ltb (placeOf (s .boards) (s .count) (t .channel)) (s .count))) _ (ap not (lt-ltb _ _ (l .listed h)))
     (both-false (badSize (t .agreed)) _ (both-false (ltb (t .agreed) minPacket) _ (le-ltb _ _ (l .least-size h)) (le-ltb _ _ (l .most-size h)))
-    (cond-false (hasImage (t .phase)) _ (λ k. ne-eqb _ _ (nonzero (t .image .announced) (l .some-image k)))))))))
+    (cond-false (hasImage (t .phase)) _ (λ k. ne-eqb _ _ (nonzero (t .image .announced) (l .some-image k))))))))))
   where
     nonzero : (n : ℕ) → 0 < n → n ≡ 0 → ⊥
     nonzero n h e = omega arith
@@ -113,7 +118,7 @@ pub lawful-sound : (s : Session) (n : ℕ) → unlawful s ≡ false → n ≡ s 
 lawful-sound s n e size =
     let l = lawful s e in
     let fits = l .announced in
-    record { stored-fits = l .stored; image-fits = omega arith; number-fits = l .number }
+    record { stored-fits = l .stored; last-fits = l .last-stored; image-fits = omega arith; number-fits = l .number }
 
 pub lawful-count : (s : Session) → unlawful s ≡ false → s .count ≤ maxBoards
 lawful-count s e = list-fits (s .boards) (s .count) (lawful s e .list)

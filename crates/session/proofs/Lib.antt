@@ -6,4 +6,5 @@ pub mod Lawfuls
 pub mod Kept
 pub mod EndRequests
 pub mod Unanswered
+pub mod RepeatedFrames
 pub mod Openings

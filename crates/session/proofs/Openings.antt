@@ -59,6 +59,8 @@ fresh-lawful bs n area size good fits =
       stored = omega arith;
       announced = omega arith;
       number = omega arith;
+      most-last = omega arith;
+      last-stored = omega arith;
       listed = λ e. let z : _≡_ {A = ℕ} 0 1 = cc in absurd (omega arith);
       least-size = λ e. let z : _≡_ {A = ℕ} 0 1 = cc in absurd (omega arith);
       most-size = λ e. let z : _≡_ {A = ℕ} 0 1 = cc in absurd (omega arith);

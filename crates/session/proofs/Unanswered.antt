@@ -19,7 +19,7 @@ use Rattle.transfer.specs.Transfers.{unanswered, otherChannel}
 use Rattle.transfer.specs.FA.{refusedFA, answerFA}
 use Rattle.transfer.specs.FB.{stateFB, grantFB, answerFB}
 use Rattle.transfer.specs.FC.{answerFC}
-use Rattle.transfer.specs.FD.{stateFD, answerFD, areaFD}
+use Rattle.transfer.specs.FD.{answerFD, areaFD}
 use Rattle.transfer.specs.FE.{rightCrc, answerFE}
 use Rattle.transfer.proofs.Choices.{of-both}
 use Rattle.session.specs.declared.session.Session.{Session}
@@ -50,9 +50,9 @@ module _ (t : Transfer) where
   unfolding answerFC
   fc-still r = of-both (Still t) (not (toldOrReceiving (t .phase)) || otherChannel t (r .channel)) _ _ (λ _. refl) (answers _ _)
 
-  fd-still : (r : _) (p : List ℕ) → Still t (answerFD t r p)
+  fd-still : (r : _) (p area : List ℕ) → Still t (answerFD t r p area)
   unfolding answerFD
-  fd-still r p = of-both (Still t) (eqb (stateFD t r p) 0) _ _ (answers _ _) (answers _ _)
+  fd-still r p area = answers _ _
 
   fe-still : (channel : ℕ) (area : List ℕ) → Still t (answerFE t channel area)
   unfolding answerFE
@@ -66,12 +66,12 @@ module _ (t : Transfer) where
       of-both (Still t) (eqb (f .command) 0xFA) _ _ (fa-still b (requestFA (f .bytes)))
       (of-both (Still t) (eqb (f .command) 0xFB) _ _ (fb-still b (requestFB (f .bytes)) area)
       (of-both (Still t) (eqb (f .command) 0xFC) _ _ (fc-still (requestFC (f .bytes)))
-      (of-both (Still t) (eqb (f .command) 0xFD) _ _ (fd-still (requestFD (f .bytes)) (packetOf (f .length) (f .bytes))) (fe-still (channelOf (f .bytes)) area))))
+      (of-both (Still t) (eqb (f .command) 0xFD) _ _ (fd-still (requestFD (f .bytes)) (packetOf (f .length) (f .bytes)) area) (fe-still (channelOf (f .bytes)) area))))
 
   -- FD is always answered
-  fd-answered : (r : _) (p : List ℕ) → answerFD t r p .answered ≡ true
+  fd-answered : (r : _) (p area : List ℕ) → answerFD t r p area .answered ≡ true
   unfolding answerFD
-  fd-answered r p = of-both (λ (x : Step). x .answered ≡ true) (eqb (stateFD t r p) 0) _ _ refl refl
+  fd-answered r p area = refl
 
 -- the claim, of an answer and the area it leaves
 pub record NothingChanged (s : Session) (area : List ℕ) (a : Answer) (after : List ℕ) : Type 0 where
@@ -91,7 +91,7 @@ unanswered-area t f b area e = go (eqb (f .command) 0xFD) refl
     go false ex = simp ex
     go true ex =
         let is = eqb-true (f .command) 0xFD ex in
-        let yes = fd-answered t (requestFD (f .bytes)) (packetOf (f .length) (f .bytes)) in
+        let yes = fd-answered t (requestFD (f .bytes)) (packetOf (f .length) (f .bytes)) area in
         let no = simp is at e in
         absurd (let z : _≡_ {A = ℕ} 0 1 = cc in omega arith)
 
@@ -112,7 +112,7 @@ stepped-quiet s f b area z = go (stepOf (s .transfer) f b area .answered) refl
         }
 
 -- a choice of an answer and of an area by the same test
-both-choices : (P : Answer → List ℕ → Type 0) (x : Bool) (a b : Answer) (m n : List ℕ) → P a m → P b n → P (cond x a b) (cond x m n)
+pub both-choices : (P : Answer → List ℕ → Type 0) (x : Bool) (a b : Answer) (m n : List ℕ) → P a m → P b n → P (cond x a b) (cond x m n)
 both-choices P true a b m n p q = p
 both-choices P false a b m n p q = q
 

@@ -49,7 +49,7 @@ stepOf t f b area =
     cond (eqb (f .command) 0xFA) (answerFA t b (requestFA (f .bytes)))
     (cond (eqb (f .command) 0xFB) (answerFB t b (requestFB (f .bytes)) area)
     (cond (eqb (f .command) 0xFC) (answerFC t (requestFC (f .bytes)))
-    (cond (eqb (f .command) 0xFD) (answerFD t (requestFD (f .bytes)) (packetOf (f .length) (f .bytes)))
+    (cond (eqb (f .command) 0xFD) (answerFD t (requestFD (f .bytes)) (packetOf (f .length) (f .bytes)) area)
     (answerFE t (channelOf (f .bytes)) area))))
 
 -- only FD writes into the area

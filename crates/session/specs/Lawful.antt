@@ -1,7 +1,7 @@
 -- 01, "Outcome numbers": "Outcome 9 is given exactly when: held is above 526; list or opened length breaks opening's rules; stored is
 -- above announced or announced above the opened length; next number is above 65,536; or, unless idle, the session's channel is not
--- listed or the agreed size is not 16 to 512; or, in told, receiving or done, announced is 0." Of this the session has all but the held
--- bytes. Assumes nothing.
+-- listed or the agreed size is not 16 to 512; or, in told, receiving or done, announced is 0." Document 02, K2, adds: if the last
+-- packet's length "is above 512 or above stored". Of this the session has all but the held bytes. Assumes nothing.
 use mathlib.Core.Path.{_≡_}
 use mathlib.Core.Bool.{Bool, true, false, cond, not, _||_}
 use mathlib.Core.List.{List}
@@ -21,6 +21,10 @@ use Rattle.session.specs.Opening.{maxArea, badArea}
 abbrev pub badLengths : Transfer → ℕ → Bool
 badLengths t opened = ltb (t .image .announced) (t .stored) || (ltb opened (t .image .announced) || ltb maxNext (t .next))
 
+-- the last packet's length "is above 512 or above stored"
+abbrev pub badLast : Transfer → Bool
+badLast t = ltb maxPacket (t .last) || ltb (t .stored) (t .last)
+
 abbrev pub badSize : ℕ → Bool
 badSize agreed = ltb agreed minPacket || ltb maxPacket agreed
 
@@ -33,7 +37,7 @@ badSessionFields t bs n =
 unfoldable pub unlawful : Session → Bool
 unlawful s =
     badList (s .boards) (s .count)
-    || (badArea (s .opened) || (badLengths (s .transfer) (s .opened) || badSessionFields (s .transfer) (s .boards) (s .count)))
+    || (badArea (s .opened) || (badLengths (s .transfer) (s .opened) || (badLast (s .transfer) || badSessionFields (s .transfer) (s .boards) (s .count))))
 
 -- The same as propositions, one to a rule; they are proved to hold exactly where `unlawful` is false.
 pub record Lawful (s : Session) : Type 0 where
@@ -43,6 +47,8 @@ pub record Lawful (s : Session) : Type 0 where
   pub stored : s .transfer .stored ≤ s .transfer .image .announced
   pub announced : s .transfer .image .announced ≤ s .opened
   pub number : s .transfer .next ≤ maxNext
+  pub most-last : s .transfer .last ≤ maxPacket
+  pub last-stored : s .transfer .last ≤ s .transfer .stored
   pub listed : idle (s .transfer .phase) ≡ false → placeOf (s .boards) (s .count) (s .transfer .channel) < s .count
   pub least-size : idle (s .transfer .phase) ≡ false → minPacket ≤ s .transfer .agreed
   pub most-size : idle (s .transfer .phase) ≡ false → s .transfer .agreed ≤ maxPacket

@@ -6,4 +6,5 @@ pub mod Opening
 pub mod Lawful
 pub mod Answering
 pub mod EndRequest
+pub mod RepeatedFrame
 pub mod Report

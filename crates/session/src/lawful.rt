@@ -11,7 +11,7 @@ use transfer::state::Transfer;
 ghost use mathlib.Core.Path.{_≡_};
 ghost use Prim.Native.Nat.{_≤_};
 ghost use Rattle.session.specs.Boards.{maxBoards};
-ghost use Rattle.session.specs.Lawful.{badLengths, badSize, badSessionFields, unlawful};
+ghost use Rattle.session.specs.Lawful.{badLengths, badLast, badSize, badSessionFields, unlawful};
 
 // After number 65,535 no packet is next.
 const MAX_NEXT: usize = 65536;
@@ -31,6 +31,9 @@ impl Session {
         if bad_lengths(transfer, self.opened) {
             return true;
         }
+        if bad_last(transfer) {
+            return true;
+        }
         bad_session_fields(transfer, boards, self.count)
     }
 }
@@ -46,6 +49,16 @@ fn bad_lengths(t: Transfer, opened: usize) -> bool
         return true;
     }
     MAX_NEXT < t.next
+}
+
+// The last packet's length.
+fn bad_last(t: Transfer) -> bool
+    ensures { λ r. ⌜ r ≡ badLast t ⌝ }
+{
+    if MAX_PACKET < t.last {
+        return true;
+    }
+    t.stored < t.last
 }
 
 fn bad_session_fields(t: Transfer, boards: [Board; list::MAX_BOARDS], count: usize) -> bool

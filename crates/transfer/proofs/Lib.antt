@@ -4,3 +4,4 @@ pub mod PhaseLaws
 pub mod Sames
 pub mod Packets
 pub mod Results
+pub mod Repetitions

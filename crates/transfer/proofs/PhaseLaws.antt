@@ -5,7 +5,7 @@ use Prim.Native.Nat.{ℕ}
 use native.Mathlib.Omega.{arith}
 use Rattle.transfer.specs.declared.phase.Phase.{Phase}
 use Rattle.transfer.specs.declared.phase.Phase.the-variants.{Idle, Asked, Told, Receiving, Done}
-use Rattle.transfer.specs.Phases.{idle, hasImage, toldOrReceiving, receivingOrDone}
+use Rattle.transfer.specs.Phases.{idle, hasImage, toldOrReceiving, receiving, receivingOrDone}
 
 -- a phase with an image is not idle
 pub image-busy : (p : Phase) → hasImage p ≡ true → idle p ≡ false
@@ -14,6 +14,13 @@ image-busy Asked e = refl
 image-busy Told e = refl
 image-busy Receiving e = refl
 image-busy Done e = refl
+
+pub receiving-busy : (p : Phase) → receiving p ≡ true → idle p ≡ false
+receiving-busy Idle e = let z : _≡_ {A = ℕ} 0 1 = cc in absurd (omega arith)
+receiving-busy Asked e = refl
+receiving-busy Told e = refl
+receiving-busy Receiving e = refl
+receiving-busy Done e = refl
 
 pub started-image : (p : Phase) → toldOrReceiving p ≡ true → hasImage p ≡ true
 started-image Idle e = e

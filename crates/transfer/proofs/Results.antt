@@ -1,6 +1,6 @@
 -- What the answers leave, each by itself. Assumes nothing.
 use mathlib.Core.Path.{_≡_, refl, sym, ap, ap₂, _∙_}
-use mathlib.Core.Bool.{Bool, true, false, cond, not, _||_}
+use mathlib.Core.Bool.{Bool, true, false, cond, not, _||_, _&&_}
 use mathlib.Core.List.{List, _++_}
 use Prim.Native.Nat.{ℕ, _+_, _<_, _≤_}
 use native.Mathlib.Omega.{arith}
@@ -16,29 +16,34 @@ use Rattle.transfer.specs.declared.state.Step.{Step}
 use Rattle.transfer.specs.Phases.{receivingOrDone}
 use Rattle.transfer.specs.Identities.{noIdentity}
 use Rattle.transfer.specs.Transfers.{maxNext, afterPacket, withProgress, otherChannel, replied}
-use Rattle.transfer.specs.FD.{notReceivingHere, stateFD, answerFD, writtenAt, areaFD}
+use Rattle.transfer.specs.FD.{repeats, stateFD, takes, answerFD, writtenAt, areaFD}
 use Rattle.transfer.specs.FE.{rightCrc, answerFE}
 use Rattle.transfer.proofs.Choices.{of-both}
-use Rattle.transfer.proofs.Packets.{taken-next}
+use Rattle.transfer.proofs.Packets.{taken, taken-state}
 
 module _ (t : Transfer) (r : RequestFD) (p area : List ℕ) where
-  -- FD answered 00: the area's bytes before place stored, the packet, and the bytes behind it
-  pub packet-stored : stateFD t r p ≡ 0 → areaFD t r p area ≡ take (t .stored) area ++ (p ++ drop (t .stored + length p) area)
+  -- a packet taken, answered 00: the area's bytes before place stored, the packet, and the bytes behind it
+  pub packet-stored : takes t r p area ≡ true → areaFD t r p area ≡ take (t .stored) area ++ (p ++ drop (t .stored + length p) area)
   unfolding areaFD writtenAt
-  packet-stored e = rw (eq-eqb (stateFD t r p) 0 e)
+  packet-stored e = rw e
 
-  pub packet-counted : stateFD t r p ≡ 0 → answerFD t r p ≡ replied (afterPacket t (length p)) (replyState (r .channel) 0)
+  pub packet-counted : takes t r p area ≡ true → answerFD t r p area ≡ replied (afterPacket t (length p)) (replyState (r .channel) 0)
   unfolding answerFD
-  packet-counted e = rw (eq-eqb (stateFD t r p) 0 e)
+  packet-counted e = simp (e, taken-state t r p area e)
 
-  -- any other state changes nothing: neither the area nor the transfer
-  pub packet-refused : (stateFD t r p ≡ 0 → ⊥) → (areaFD t r p area ≡ area) × (answerFD t r p ≡ replied t (replyState (r .channel) (stateFD t r p)))
+  -- any other packet, repeated or refused, changes nothing: neither the area nor the transfer
+  pub packet-not-taken : takes t r p area ≡ false → (areaFD t r p area ≡ area) × (answerFD t r p area ≡ replied t (replyState (r .channel) (stateFD t r p area)))
   unfolding areaFD answerFD
-  packet-refused n = (rw (ne-eqb (stateFD t r p) 0 n), rw (ne-eqb (stateFD t r p) 0 n))
+  packet-not-taken e = (rw e, rw e)
+
+  -- so does every packet with another state than 00
+  pub packet-refused : (stateFD t r p area ≡ 0 → ⊥) → (areaFD t r p area ≡ area) × (answerFD t r p area ≡ replied t (replyState (r .channel) (stateFD t r p area)))
+  unfolding takes
+  packet-refused n = packet-not-taken (ap (λ (b : Bool). b && not (repeats t r p area)) (ne-eqb (stateFD t r p area) 0 n))
 
   -- after number 65,535 no packet is next: a number has two bytes
-  pub none-next : t .next ≡ maxNext → r .number < maxNext → stateFD t r p ≡ 0 → ⊥
-  none-next last small e = let n = taken-next t r p e in omega arith
+  pub none-next : t .next ≡ maxNext → r .number < maxNext → takes t r p area ≡ true → ⊥
+  none-next last small e = let n = taken t r p area e .number in omega arith
 
 module _ (t : Transfer) (channel : ℕ) (area : List ℕ) where
   -- a failed end check: idle, nothing stored, no identity, all else as it was

@@ -1,5 +1,6 @@
 -- 01, "How the session answers": "FC, phase told or receiving, session's channel; else outcome 10. If offset equals stored, the reply
--- is that offset. Otherwise stored becomes 0 and the reply is 0. Phase receiving, next number 0." Assumes nothing.
+-- is that offset. Otherwise stored becomes 0 and the reply is 0. Phase receiving, next number 0." Document 02, K2: the last packet's
+-- length is "0 after FC", by `withProgress`. Assumes nothing.
 use mathlib.Core.Bool.{cond, not, _||_}
 use Prim.Native.Nat.{ℕ}
 use lib.Dec.{eqb}

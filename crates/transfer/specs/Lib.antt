@@ -7,3 +7,4 @@ pub mod FB
 pub mod FC
 pub mod FD
 pub mod FE
+pub mod Repeats

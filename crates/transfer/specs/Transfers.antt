@@ -18,20 +18,21 @@ maxNext = 65536
 
 -- idle and otherwise zero
 abbrev pub noTransfer : Transfer
-noTransfer = record { phase = Idle; channel = 0; agreed = 0; next = 0; stored = 0; image = noIdentity }
+noTransfer = record { phase = Idle; channel = 0; agreed = 0; next = 0; stored = 0; last = 0; image = noIdentity }
 
--- the changes
+-- the changes. Document 02, K2: "The record gains the last packet's length, 0 after FC and whenever stored becomes 0". Both are
+-- `withProgress`: its three uses are FC, another identity in FB and a failed end check in FE.
 abbrev pub asked : Transfer → ℕ → ℕ → Transfer
-asked t channel agreed = record { phase = Asked; channel = channel; agreed = agreed; next = t .next; stored = t .stored; image = t .image }
+asked t channel agreed = record { phase = Asked; channel = channel; agreed = agreed; next = t .next; stored = t .stored; last = t .last; image = t .image }
 
 abbrev pub withPhase : Transfer → Phase → Transfer
-withPhase t phase = record { phase = phase; channel = t .channel; agreed = t .agreed; next = t .next; stored = t .stored; image = t .image }
+withPhase t phase = record { phase = phase; channel = t .channel; agreed = t .agreed; next = t .next; stored = t .stored; last = t .last; image = t .image }
 
 abbrev pub withProgress : Transfer → Phase → ℕ → ℕ → Identity → Transfer
-withProgress t phase next stored image = record { phase = phase; channel = t .channel; agreed = t .agreed; next = next; stored = stored; image = image }
+withProgress t phase next stored image = record { phase = phase; channel = t .channel; agreed = t .agreed; next = next; stored = stored; last = 0; image = image }
 
 abbrev pub afterPacket : Transfer → ℕ → Transfer
-afterPacket t n = record { phase = t .phase; channel = t .channel; agreed = t .agreed; next = t .next + 1; stored = t .stored + n; image = t .image }
+afterPacket t n = record { phase = t .phase; channel = t .channel; agreed = t .agreed; next = t .next + 1; stored = t .stored + n; last = n; image = t .image }
 
 -- not the session's channel
 abbrev pub otherChannel : Transfer → ℕ → Bool
@@ -47,5 +48,6 @@ unanswered t = record { answered = false; transfer = t; reply = zeros maxReply }
 -- What a lawful record's transfer is to an area of n bytes. Internal: it is what the session knows before it asks for an answer.
 pub record Sound (t : Transfer) (n : ℕ) : Type 0 where
   pub stored-fits : t .stored ≤ t .image .announced
+  pub last-fits : t .last ≤ t .stored
   pub image-fits : t .image .announced ≤ n
   pub number-fits : t .next ≤ maxNext

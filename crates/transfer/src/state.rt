@@ -17,6 +17,8 @@ pub struct Transfer {
     pub next: usize,
     // How many bytes of the image stand in the area.
     pub stored: usize,
+    // The length of the packet accepted last in this leg; 0 where there is none.
+    pub last: usize,
     pub image: Identity,
 }
 
@@ -61,6 +63,7 @@ impl Transfer {
             agreed: 0,
             next: 0,
             stored: 0,
+            last: 0,
             image,
         }
     }
@@ -75,6 +78,7 @@ impl Transfer {
             agreed,
             next: self.next,
             stored: self.stored,
+            last: self.last,
             image,
         }
     }
@@ -89,10 +93,12 @@ impl Transfer {
             agreed: self.agreed,
             next: self.next,
             stored: self.stored,
+            last: self.last,
             image,
         }
     }
 
+    // A leg begins (FC), or what is stored is dropped (another identity in FB, a failed end check in FE): no packet is the last one.
     pub(crate) fn with_progress(
         self,
         phase: Phase,
@@ -102,12 +108,14 @@ impl Transfer {
     ) -> Transfer
         ensures { λ r. ⌜ r ≡ withProgress self phase next stored image ⌝ }
     {
+        let last = 0;
         Transfer {
             phase,
             channel: self.channel,
             agreed: self.agreed,
             next,
             stored,
+            last,
             image,
         }
     }
@@ -125,6 +133,7 @@ impl Transfer {
             agreed: self.agreed,
             next: self.next + 1,
             stored: self.stored + n,
+            last: n,
             image,
         }
     }

@@ -5,7 +5,7 @@ use mathlib.Core.List.{List}
 use Prim.Native.Nat.{ℕ}
 use borrow.Author.Tests.{eq-eqb, ne-eqb}
 use Rattle.commands.specs.declared.request.RequestFD.{RequestFD}
-use Rattle.transfer.specs.FD.{areaFD}
+use Rattle.transfer.specs.FD.{answerFD, areaFD}
 use Rattle.session.specs.Answering.{stepOf, areaOf}
 use Rattle.session.proofs.answer.respond.Statement.{statement}
 use Rattle.session.proofs.answer.respond.Tie as tie
@@ -67,8 +67,10 @@ returns-4 c =
     let is = c .before .before .before .before .before .before .before .before .if4 .taken in
     let a = c .before .before .before .before .before .before .before .before .before .before .before .before .before .before .args in
     let fields = c .before .before .before .before .before .before .fd .ensures in
-    let packet = c .before .before .before .before .packet .ensures in
-    (simp (is, fields, packet, c .before .before .fd2 .ensures .0), rw (eq-eqb _ _ is) (c .before .before .fd2 .ensures .1 ∙ ap₂ (λ (r : RequestFD) (p : List ℕ). areaFD (a .t) r p (a .area .now)) fields packet))
+    let packet = c .before .before .before .before .packet .ensures in (
+      rw is (c .before .before .fd2 .ensures .0 ∙ ap₂ (λ (r : RequestFD) (p : List ℕ). answerFD (a .t) r p (a .area .now)) fields packet),
+      rw (eq-eqb _ _ is) (c .before .before .fd2 .ensures .1 ∙ ap₂ (λ (r : RequestFD) (p : List ℕ). areaFD (a .t) r p (a .area .now)) fields packet),
+    )
 
 channel-requires : tie.Need-channel-requires
 channel-requires c κs = search needs

@@ -27,12 +27,19 @@ returns-3 : tie.Need-returns-3
 unfolding unlawful
 returns-3 c = simp (← c .before .before .before .before .before .bad-list .ensures, c .before .before .before .before .if1 .left, ← c .before .before .before .bad-area .ensures, c .before .before .if2 .left, ← c .before .bad-lengths .ensures, c .if3 .taken)
 
-bad-session-fields-requires : tie.Need-bad-session-fields-requires
-bad-session-fields-requires c κs = list-fits _ _ (sym (c .before .before .before .before .before .bad-list .ensures) ∙ c .before .before .before .before .if1 .left)
+bad-last-requires : tie.Need-bad-last-requires
+bad-last-requires c κs = search needs
 
 returns-4 : tie.Need-returns-4
 unfolding unlawful
-returns-4 c = simp (← c .before .before .before .before .before .before .bad-list .ensures, c .before .before .before .before .before .if1 .left, ← c .before .before .before .before .bad-area .ensures, c .before .before .before .if2 .left, ← c .before .before .bad-lengths .ensures, c .before .if3 .left, ← c .bad-session-fields .ensures)
+returns-4 c = simp (← c .before .before .before .before .before .before .before .bad-list .ensures, c .before .before .before .before .before .before .if1 .left, ← c .before .before .before .before .before .bad-area .ensures, c .before .before .before .before .if2 .left, ← c .before .before .before .bad-lengths .ensures, c .before .before .if3 .left, ← c .before .bad-last .ensures, c .if4 .taken)
+
+bad-session-fields-requires : tie.Need-bad-session-fields-requires
+bad-session-fields-requires c κs = list-fits _ _ (sym (c .before .before .before .before .before .before .before .bad-list .ensures) ∙ c .before .before .before .before .before .before .if1 .left)
+
+returns-5 : tie.Need-returns-5
+unfolding unlawful
+returns-5 c = simp (← c .before .before .before .before .before .before .before .before .bad-list .ensures, c .before .before .before .before .before .before .before .if1 .left, ← c .before .before .before .before .before .before .bad-area .ensures, c .before .before .before .before .before .if2 .left, ← c .before .before .before .before .bad-lengths .ensures, c .before .before .before .if3 .left, ← c .before .before .bad-last .ensures, c .before .if4 .left, ← c .bad-session-fields .ensures)
 
 pub unlawful-spec : {M : Type 1} → statement M
 unlawful-spec =
@@ -44,5 +51,7 @@ unlawful-spec =
     returns-2
     bad-lengths-requires
     returns-3
+    bad-last-requires
+    returns-4
     bad-session-fields-requires
-    returns-4)
+    returns-5)

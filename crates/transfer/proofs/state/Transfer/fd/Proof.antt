@@ -1,12 +1,21 @@
 -- `transfer::state::Transfer::fd` meets its contract. Assumes nothing.
 use borrow.Author.Needs.{needs}
-use mathlib.Core.Path.{sym, _∙_}
+use mathlib.Core.Path.{_≡_, sym, ap, _∙_}
+use mathlib.Core.Bool.{Bool, _&&_}
+use mathlib.Core.List.{List}
+use Prim.Native.Nat.{ℕ}
 use native.Mathlib.Omega.{arith}
-use Rattle.transfer.proofs.Packets.{taken-fits}
-use borrow.Author.Tests.{eq-eqb, ne-eqb}
-use Rattle.transfer.specs.FD.{answerFD, areaFD}
+use lib.Dec.{eqb}
+use Rattle.commands.specs.declared.request.RequestFD.{RequestFD}
+use Rattle.transfer.specs.declared.state.Transfer.{Transfer}
+use Rattle.transfer.specs.FD.{stateFD, takes, answerFD, areaFD}
+use Rattle.transfer.proofs.Packets.{taken, takes-next}
 use Rattle.transfer.proofs.state.Transfer.fd.Statement.{statement}
 use Rattle.transfer.proofs.state.Transfer.fd.Tie as tie
+
+-- what was tested is whether the packet is taken
+is-taken : (t : Transfer) (r : RequestFD) (p area : List ℕ) (state : ℕ) (b : Bool) → state ≡ stateFD t r p area → b ≡ (eqb state 0 && eqb (r .number) (t .next)) → takes t r p area ≡ b
+is-taken t r p area state b e f = sym (takes-next t r p area) ∙ ap (λ (n : ℕ). eqb n 0 && eqb (r .number) (t .next)) (sym e) ∙ sym f
 
 packet-state-requires : tie.Need-packet-state-requires
 packet-state-requires c κs = search needs
@@ -14,44 +23,49 @@ packet-state-requires c κs = search needs
 state-requires : tie.Need-state-requires
 state-requires c κs = search needs
 
-replied-requires : tie.Need-replied-requires
-replied-requires c κs = search needs
-
-returns : tie.Need-returns
-unfolding answerFD areaFD
-returns c =
-    let differs = ne-eqb _ _ (c .before .before .if1 .taken) in (
-      simp (← c .before .before .before .packet-state .ensures, differs, c .before .state .ensures, c .replied .ensures),
-      simp (← c .before .before .before .packet-state .ensures, differs),
-    )
+stores-requires : tie.Need-stores-requires
+stores-requires c κs = search needs
 
 write-at-requires : tie.Need-write-at-requires
 write-at-requires c κs =
-    let t = c .before .before .before .before .before .args in
-    let p = c .before .before .before .before .before .pre in
-    omega (arith, p .image-fits, taken-fits (t .self) (t .r) (t .packet .now) (sym (c .before .before .packet-state .ensures) ∙ c .before .if1 .left))
+    let a = c .before .before .before .before .before .before .before .before .args in
+    let takes-it = is-taken (a .self) (a .r) (a .packet .now) (a .area .now) _ _ (c .before .before .before .before .packet-state .ensures) (c .before .before .stores .ensures) ∙ c .before .if1 .taken in
+    omega (arith, c .before .before .before .before .before .before .before .before .pre .image-fits, taken (a .self) (a .r) (a .packet .now) (a .area .now) takes-it .fits)
 
 after-packet-requires : tie.Need-after-packet-requires
 after-packet-requires c κs =
-    let t = c .before .before .before .before .before .before .before .before .args in
-    (taken-fits (t .self) (t .r) (t .packet .now) (sym (c .before .before .before .before .before .packet-state .ensures) ∙ c .before .before .before .before .if1 .left), c .before .before .before .before .before .before .before .before .pre .number-fits)
+    let a = c .before .before .before .before .before .before .before .before .before .before .before .args in
+    let takes-it = is-taken (a .self) (a .r) (a .packet .now) (a .area .now) _ _ (c .before .before .before .before .before .before .before .packet-state .ensures) (c .before .before .before .before .before .stores .ensures) ∙ c .before .before .before .before .if1 .taken in
+    (taken (a .self) (a .r) (a .packet .now) (a .area .now) takes-it .fits, c .before .before .before .before .before .before .before .before .before .before .before .pre .number-fits)
 
-state-requires-2 : tie.Need-state-requires-2
-state-requires-2 c κs = search needs
-
-replied-requires-2 : tie.Need-replied-requires-2
-replied-requires-2 c κs = search needs
+replied-requires : tie.Need-replied-requires
+replied-requires c κs = search needs
 
 same-length : tie.Need-same-length
 same-length c = search needs
 
+returns : tie.Need-returns
+unfolding answerFD areaFD
+returns c =
+    let a = c .before .before .before .before .before .before .before .before .before .before .before .before .before .args in
+    let takes-it = is-taken (a .self) (a .r) (a .packet .now) (a .area .now) _ _ (c .before .before .before .before .before .before .before .before .before .packet-state .ensures) (c .before .before .before .before .before .before .before .stores .ensures) ∙ c .before .before .before .before .before .before .if1 .taken in (
+      simp (takes-it, ← c .before .before .before .before .before .before .before .before .before .packet-state .ensures, c .before .before .before .before .before .before .before .before .state .ensures, c .before .after-packet .ensures, c .replied .ensures),
+      simp (takes-it, c .before .before .before .before .write-at .ensures),
+    )
+
+replied-requires-2 : tie.Need-replied-requires-2
+replied-requires-2 c κs = search needs
+
+same-length-2 : tie.Need-same-length-2
+same-length-2 c = search needs
+
 returns-2 : tie.Need-returns-2
 unfolding answerFD areaFD
 returns-2 c =
-    let state = c .before .before .before .before .before .before .before .before .packet-state .ensures in
-    let zero = eq-eqb _ _ (c .before .before .before .before .before .before .before .if1 .left) in (
-      simp (← state, zero, c .before .before .after-packet .ensures, c .before .state2 .ensures, c .replied2 .ensures),
-      simp (← state, zero, c .before .before .before .before .before .write-at .ensures),
+    let a = c .before .before .before .before .before .before .before .before .args in
+    let takes-it = is-taken (a .self) (a .r) (a .packet .now) (a .area .now) _ _ (c .before .before .before .before .packet-state .ensures) (c .before .before .stores .ensures) ∙ c .before .if1 .left in (
+      simp (takes-it, ← c .before .before .before .before .packet-state .ensures, c .before .before .before .state .ensures, c .replied2 .ensures),
+      simp takes-it,
     )
 
 pub fd-spec : {M : Type 1} → statement M
@@ -60,11 +74,12 @@ fd-spec =
     (tie.spec
     packet-state-requires
     state-requires
-    replied-requires
-    returns
+    stores-requires
     write-at-requires
     after-packet-requires
-    state-requires-2
-    replied-requires-2
+    replied-requires
     same-length
+    returns
+    replied-requires-2
+    same-length-2
     returns-2)

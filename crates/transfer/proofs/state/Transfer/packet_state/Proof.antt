@@ -11,30 +11,36 @@ returns : tie.Need-returns
 unfolding stateFD
 returns c = simp (← c .before .not-receiving-here .ensures, c .if1 .taken)
 
-out-of-order-requires : tie.Need-out-of-order-requires
-out-of-order-requires c κs = search needs
+repeats-requires : tie.Need-repeats-requires
+repeats-requires c κs = search needs
+
+crc-state-requires : tie.Need-crc-state-requires
+crc-state-requires c κs = search needs
 
 returns-2 : tie.Need-returns-2
 unfolding stateFD
-returns-2 c = simp (← c .before .before .before .not-receiving-here .ensures, c .before .before .if1 .left, ← c .before .out-of-order .ensures, c .if2 .taken)
+returns-2 c = simp (← c .before .before .before .before .not-receiving-here .ensures, c .before .before .before .if1 .left, ← c .before .before .repeats .ensures, c .before .if2 .taken, ← c .crc-state .ensures)
+
+out-of-order-requires : tie.Need-out-of-order-requires
+out-of-order-requires c κs = search needs
+
+returns-3 : tie.Need-returns-3
+unfolding stateFD
+returns-3 c = simp (← c .before .before .before .before .before .not-receiving-here .ensures, c .before .before .before .before .if1 .left, ← c .before .before .before .repeats .ensures, c .before .before .if2 .left, ← c .before .out-of-order .ensures, c .if3 .taken)
 
 wrong-size-requires : tie.Need-wrong-size-requires
 wrong-size-requires c κs = search needs
 
-returns-3 : tie.Need-returns-3
-unfolding stateFD
-returns-3 c = simp (← c .before .before .before .before .before .not-receiving-here .ensures, c .before .before .before .before .if1 .left, ← c .before .before .before .out-of-order .ensures, c .before .before .if2 .left, ← c .before .wrong-size .ensures, c .if3 .taken)
-
-wrong-crc-requires : tie.Need-wrong-crc-requires
-wrong-crc-requires c κs = search needs
-
 returns-4 : tie.Need-returns-4
 unfolding stateFD
-returns-4 c = simp (← c .before .before .before .before .before .before .before .not-receiving-here .ensures, c .before .before .before .before .before .before .if1 .left, ← c .before .before .before .before .before .out-of-order .ensures, c .before .before .before .before .if2 .left, ← c .before .before .before .wrong-size .ensures, c .before .before .if3 .left, ← c .before .wrong-crc .ensures, c .if4 .taken)
+returns-4 c = simp (← c .before .before .before .before .before .before .before .not-receiving-here .ensures, c .before .before .before .before .before .before .if1 .left, ← c .before .before .before .before .before .repeats .ensures, c .before .before .before .before .if2 .left, ← c .before .before .before .out-of-order .ensures, c .before .before .if3 .left, ← c .before .wrong-size .ensures, c .if4 .taken)
+
+crc-state-requires-2 : tie.Need-crc-state-requires-2
+crc-state-requires-2 c κs = search needs
 
 returns-5 : tie.Need-returns-5
 unfolding stateFD
-returns-5 c = simp (← c .before .before .before .before .before .before .before .not-receiving-here .ensures, c .before .before .before .before .before .before .if1 .left, ← c .before .before .before .before .before .out-of-order .ensures, c .before .before .before .before .if2 .left, ← c .before .before .before .wrong-size .ensures, c .before .before .if3 .left, ← c .before .wrong-crc .ensures, c .if4 .left)
+returns-5 c = simp (← c .before .before .before .before .before .before .before .before .not-receiving-here .ensures, c .before .before .before .before .before .before .before .if1 .left, ← c .before .before .before .before .before .before .repeats .ensures, c .before .before .before .before .before .if2 .left, ← c .before .before .before .before .out-of-order .ensures, c .before .before .before .if3 .left, ← c .before .before .wrong-size .ensures, c .before .if4 .left, ← c .crc-state2 .ensures)
 
 pub packet-state-spec : {M : Type 1} → statement M
 packet-state-spec =
@@ -42,10 +48,12 @@ packet-state-spec =
     (tie.spec
     not-receiving-here-requires
     returns
-    out-of-order-requires
+    repeats-requires
+    crc-state-requires
     returns-2
-    wrong-size-requires
+    out-of-order-requires
     returns-3
-    wrong-crc-requires
+    wrong-size-requires
     returns-4
+    crc-state-requires-2
     returns-5)

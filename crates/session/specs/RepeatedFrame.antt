@@ -1,0 +1,71 @@
+-- Document 02, K2, "A lost reply must not cost the whole leg", at the session: a frame FD whose packet was taken is answered 00 when it
+-- comes again and changes nothing, however often it came before and whatever packets but the next came in between; a frame of other
+-- bytes never is. Assumes nothing.
+use mathlib.Core.Path.{_≡_}
+use mathlib.Core.Bool.{true, false}
+use mathlib.Core.List.{List, [], _∷_}
+use Prim.Native.Nat.{ℕ, _+_}
+use lib.ListN.{length}
+use Rattle.frames.specs.declared.finished.FinishedFrame.{FinishedFrame}
+use Rattle.frames.specs.Frame.{Bytes}
+use Rattle.frames.specs.Finished.{padded}
+use Rattle.commands.specs.declared.request.RequestFD.{RequestFD}
+use Rattle.commands.specs.declared.table.Header.the-variants.{Right}
+use Rattle.commands.specs.Requests.{requestFD, packetOf}
+use Rattle.commands.specs.Replies.{maxReply, replyState}
+use Rattle.transfer.specs.FD.{takes}
+use Rattle.session.specs.declared.session.Session.{Session}
+use Rattle.session.specs.declared.answer.Answer.{Answer}
+use Rattle.session.specs.Outcomes.{isAnswered}
+use Rattle.session.specs.Lawful.{unlawful}
+use Rattle.session.specs.Answering.{headerOfFrame, answered, areaAfter}
+
+-- the fields and the bytes of an FD
+abbrev pub fieldsOf : FinishedFrame → RequestFD
+fieldsOf f = requestFD (f .bytes)
+
+abbrev pub packetIn : FinishedFrame → List ℕ
+packetIn f = packetOf (f .length) (f .bytes)
+
+-- what a frame comes to, and leaves
+pub record Point : Type 0 where
+  pub session : Session
+  pub area : List ℕ
+
+abbrev pub answerAt : Point → FinishedFrame → Answer
+answerAt x f = answered (x .session) f (x .area)
+
+abbrev pub after : Point → FinishedFrame → Point
+after x f = record { session = answerAt x f .session; area = areaAfter (x .session) f (x .area) }
+
+abbrev pub afterAll : Point → List FinishedFrame → Point
+afterAll x [] = x
+afterAll x (f ∷ fs) = afterAll (after x f) fs
+
+-- the frame is an FD whose packet is taken here
+pub record TakenHere (x : Point) (f : FinishedFrame) : Type 0 where
+  pub command : f .command ≡ 0xFD
+  pub header : headerOfFrame f ≡ Right
+  pub taken : takes (x .session .transfer) (fieldsOf f) (packetIn f) (x .area) ≡ true
+
+-- frames FD, on whatever channel and with whatever bytes, none of this number
+abbrev pub OtherPackets : ℕ → List FinishedFrame → Type 0
+OtherPackets number [] = Unit
+OtherPackets number (f ∷ fs) = (f .command ≡ 0xFD) × ((fieldsOf f .number ≡ number → ⊥) × OtherPackets number fs)
+
+-- the reply to an FD: outcome 0 and its state
+abbrev pub RepliesWith : Answer → RequestFD → ℕ → Type 0
+RepliesWith a r state = (a .outcome ≡ isAnswered) × (a .reply ≡ padded maxReply (replyState (r .channel) state))
+
+-- what holds once frame f was taken at x and the frames fs came after it
+pub record FrameRepeated (x : Point) (f : FinishedFrame) (fs : List FinishedFrame) : Type 0 where
+  pub unmoved : afterAll (after x f) fs ≡ after x f
+  pub answered-00 : RepliesWith (answerAt (afterAll (after x f) fs) f) (fieldsOf f) 0
+  pub unchanged : after (afterAll (after x f) fs) f ≡ after x f
+  pub other-bytes : (g : FinishedFrame) → g .command ≡ 0xFD → (fieldsOf g .number ≡ fieldsOf f .number + 1 → ⊥) → (packetIn g ≡ packetIn f → ⊥)
+      → RepliesWith (answerAt (afterAll (after x f) fs) g) (fieldsOf g) 0 → ⊥
+
+abbrev pub RepeatedFrame : Type 0
+RepeatedFrame =
+    (x : Point) (f : FinishedFrame) (fs : List FinishedFrame) → unlawful (x .session) ≡ false → length (x .area) ≡ x .session .opened → Bytes (f .bytes)
+    → TakenHere x f → OtherPackets (fieldsOf f .number + 1) fs → FrameRepeated x f fs

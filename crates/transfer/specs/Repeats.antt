@@ -1,0 +1,85 @@
+-- Document 02, K2, "A lost reply must not cost the whole leg": an accepted packet that comes again is answered 00 and changes nothing,
+-- whatever was lost in between, and a packet that differs from it in a byte never is. A lost frame does not come, and whether a reply
+-- is heard is no part of a transfer: so all that can make a difference is what did come in between. That may be any packets but the
+-- next, in any number. Assumes nothing.
+use mathlib.Core.Path.{_≡_}
+use mathlib.Core.Bool.{true, false}
+use mathlib.Core.List.{List, [], _∷_}
+use Prim.Native.Nat.{ℕ, _+_}
+use lib.ListN.{length}
+use Rattle.commands.specs.declared.request.RequestFA.{RequestFA}
+use Rattle.commands.specs.declared.request.RequestFB.{RequestFB}
+use Rattle.commands.specs.declared.request.RequestFC.{RequestFC}
+use Rattle.commands.specs.declared.request.RequestFD.{RequestFD}
+use Rattle.commands.specs.Replies.{replyState}
+use Rattle.transfer.specs.declared.board.Board.{Board}
+use Rattle.transfer.specs.declared.state.Transfer.{Transfer}
+use Rattle.transfer.specs.declared.state.Step.{Step}
+use Rattle.transfer.specs.Phases.{receivingOrDone}
+use Rattle.transfer.specs.Identities.{identityOf, sameIdentity}
+use Rattle.transfer.specs.Transfers.{replied, Sound}
+use Rattle.transfer.specs.FA.{answerFA}
+use Rattle.transfer.specs.FB.{stateFB, answerFB}
+use Rattle.transfer.specs.FC.{answerFC}
+use Rattle.transfer.specs.FD.{repeats, stateFD, takes, answerFD, areaFD}
+use Rattle.transfer.specs.FE.{rightCrc, answerFE}
+
+-- the fields of an FD and its bytes
+pub record Packet : Type 0 where
+  pub request : RequestFD
+  pub bytes : List ℕ
+
+-- what a packet comes to, and leaves
+pub record Leg : Type 0 where
+  pub transfer : Transfer
+  pub area : List ℕ
+
+abbrev pub stateTo : Leg → Packet → ℕ
+stateTo x k = stateFD (x .transfer) (k .request) (k .bytes) (x .area)
+
+abbrev pub answerTo : Leg → Packet → Step
+answerTo x k = answerFD (x .transfer) (k .request) (k .bytes) (x .area)
+
+abbrev pub after : Leg → Packet → Leg
+after x k = record { transfer = answerTo x k .transfer; area = areaFD (x .transfer) (k .request) (k .bytes) (x .area) }
+
+abbrev pub afterAll : Leg → List Packet → Leg
+afterAll x [] = x
+afterAll x (k ∷ ks) = afterAll (after x k) ks
+
+-- none of the packets has this number
+abbrev pub NoneOf : ℕ → List Packet → Type 0
+NoneOf number [] = Unit
+NoneOf number (k ∷ ks) = (k .request .number ≡ number → ⊥) × NoneOf number ks
+
+-- what holds once packet k was accepted in leg x and the packets ks came after it
+pub record Repetition (x : Leg) (k : Packet) (ks : List Packet) : Type 0 where
+  -- the leg is as k left it
+  pub unmoved : afterAll (after x k) ks ≡ after x k
+  -- k again is answered 00
+  pub answered-00 : answerTo (afterAll (after x k) ks) k ≡ replied (after x k .transfer) (replyState (k .request .channel) 0)
+  -- and changes nothing
+  pub unchanged : after (afterAll (after x k) ks) k ≡ after x k
+  -- no other bytes are answered 00, the next packet's aside
+  pub other-bytes : (q : Packet) → (q .request .number ≡ k .request .number + 1 → ⊥) → (q .bytes ≡ k .bytes → ⊥) → stateTo (afterAll (after x k) ks) q ≡ 0 → ⊥
+
+abbrev pub RepeatedPacket : Type 0
+RepeatedPacket =
+    (x : Leg) (k : Packet) (ks : List Packet) → Sound (x .transfer) (length (x .area)) → takes (x .transfer) (k .request) (k .bytes) (x .area) ≡ true
+    → NoneOf (k .request .number + 1) ks → Repetition x k ks
+
+-- The last packet's length: "0 after FC and whenever stored becomes 0; while it is 0 the test never holds".
+pub record LastLength (t : Transfer) : Type 0 where
+  -- FC, even where the offset is what is stored
+  pub fc-none : (r : RequestFC) → answerFC t r .answered ≡ true → answerFC t r .transfer .last ≡ 0
+  -- another identity in FB, and a failed end check
+  pub fb-none : (b : Board) (r : RequestFB) (area : List ℕ) → answerFB t b r area .answered ≡ true → stateFB b r (length area) ≡ 0
+      → sameIdentity (identityOf r) (t .image) ≡ false → answerFB t b r area .transfer .last ≡ 0
+  pub fe-none : (channel : ℕ) (area : List ℕ) → receivingOrDone (t .phase) ≡ true → channel ≡ t .channel → t .stored ≡ t .image .announced
+      → rightCrc t area ≡ false → answerFE t channel area .transfer .last ≡ 0
+  -- FA and FB with the same identity keep it
+  pub fa-kept : (b : Board) (r : RequestFA) → answerFA t b r .transfer .last ≡ t .last
+  pub fb-kept : (b : Board) (r : RequestFB) (area : List ℕ) → sameIdentity (identityOf r) (t .image) ≡ true → answerFB t b r area .transfer .last ≡ t .last
+  -- while it is 0 no packet is a repeated one; nor is one while the next number is 0, which has no number below it
+  pub never : t .last ≡ 0 → (r : RequestFD) (p area : List ℕ) → repeats t r p area ≡ false
+  pub first-never : t .next ≡ 0 → (r : RequestFD) (p area : List ℕ) → repeats t r p area ≡ false
