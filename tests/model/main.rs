@@ -1,22 +1,31 @@
-//! The model: an independent receiver written from document 01 and 02's K1 and
-//! K2, its replay program, and the captures to compare another one with.
+//! The model: an independent receiver and sender written from document 01 and
+//! 02's K1 to K3, their programs, and what to compare other ones with.
 //!
 //! Build: `rustc -O --edition 2021 main.rs -o model`. See `USAGE` for the modes.
 
 mod crc;
+mod cross;
+mod ends;
+mod exchange;
+mod exchanges;
 mod frame;
 mod generate;
+mod link;
 mod reader;
 mod receiver;
 mod replay;
 mod rng;
 mod selftest;
+mod selftest_exchange;
+mod selftest_sender;
+mod sender;
 mod session;
 mod stored;
 mod wire;
+mod words;
 
 use std::fs;
-use std::io::{self, BufWriter, Write};
+use std::io::{self, BufWriter, Read, Write};
 use std::path::Path;
 use std::process::ExitCode;
 
@@ -28,11 +37,21 @@ model many DIR N SEED          N captures and their replay outputs, into DIR
 model stored                   the stored capture
 model stored-notes             stored.md
 model sound SIZE               about SIZE bytes of sound transfers
+model exchange WORDS..         both ends over a simulated link
+model cross WORDS.. < output   another exchange's output against the model's ends;
+                               status 1 and the first line that does not fit
+model exchanges DIR N SEED     N sets of words and the exchange's outputs, into DIR
+model exchange-stored-words    the words of the stored exchange
 model selftest                 the self-tests; status 1 if one fails
 ";
 
 fn main() -> ExitCode {
-    let arguments: Vec<String> = std::env::args().skip(1).collect();
+    let arguments: Result<Vec<String>, _> =
+        std::env::args_os().skip(1).map(|word| word.into_string()).collect();
+    let Ok(arguments) = arguments else {
+        eprintln!("model: the words are no text");
+        return ExitCode::from(2);
+    };
     let words: Vec<&str> = arguments.iter().map(String::as_str).collect();
     match run(&words) {
         Ok(true) => ExitCode::SUCCESS,
@@ -44,7 +63,7 @@ fn main() -> ExitCode {
     }
 }
 
-/// Runs a mode; false if a self-test failed.
+/// Runs a mode; false if a self-test failed or a line did not fit.
 fn run(words: &[&str]) -> io::Result<bool> {
     match words {
         [] | ["replay"] => {
@@ -56,6 +75,14 @@ fn run(words: &[&str]) -> io::Result<bool> {
         ["stored"] => print(&stored::stored().capture)?,
         ["stored-notes"] => print(stored::stored().notes().as_bytes())?,
         ["sound", size] => print(&wire::sound(number(size)? as usize))?,
+        ["exchange", words @ ..] => return exchange(words),
+        ["cross", words @ ..] => return cross(words),
+        ["exchanges", folder, count, seed] => {
+            exchanges(Path::new(folder), number(count)?, number(seed)?)?
+        }
+        ["exchange-stored-words"] => {
+            print((exchanges::stored_words().join("\n") + "\n").as_bytes())?
+        }
         ["selftest"] => return Ok(selftest::run()),
         _ => return Err(bad(USAGE)),
     }
@@ -71,11 +98,56 @@ fn many(folder: &Path, count: u64, seed: u64) -> io::Result<()> {
             _ if count > 100 && index == count - 1 => generate::LONG_KIND,
             _ => generate::KINDS[index as usize % usual],
         };
-        let seed = rng::Rng::new(seed.wrapping_mul(1_000_003).wrapping_add(index)).next();
+        let seed = seed_of(seed, index);
         let capture = capture(kind, seed)?;
         let name = format!("{index:06}-{kind}-{seed}");
         fs::write(folder.join(name.clone() + ".capture"), &capture)?;
         fs::write(folder.join(name + ".expected"), replay::replay_bytes(&capture))?;
+    }
+    Ok(())
+}
+
+/// The seed of the index-th of many.
+fn seed_of(seed: u64, index: u64) -> u64 {
+    rng::Rng::new(seed.wrapping_mul(1_000_003).wrapping_add(index)).next()
+}
+
+/// Runs an exchange; false if the stored bytes were ever not the image's first.
+fn exchange(words: &[&str]) -> io::Result<bool> {
+    let words = words::Words::read_with_files(words).map_err(|error| bad(&error))?;
+    let (text, sound) = exchange::exchange(&words);
+    print(text.as_bytes())?;
+    Ok(sound)
+}
+
+/// Plays another program's output, on standard input, through the model's ends.
+fn cross(words: &[&str]) -> io::Result<bool> {
+    let words = words::Words::read_with_files(words).map_err(|error| bad(&error))?;
+    let mut transcript = Vec::new();
+    io::stdin().lock().read_to_end(&mut transcript)?;
+    let (line, fits) = match cross::cross(&words, &String::from_utf8_lossy(&transcript)) {
+        Ok(counts) => (format!("cross ok: {counts}\n"), true),
+        Err(misfit) => (format!("{misfit}\n"), false),
+    };
+    print(line.as_bytes())?;
+    Ok(fits)
+}
+
+/// Writes sets of words 0 to count - 1, the images they name and the exchange's
+/// outputs.
+fn exchanges(folder: &Path, count: u64, seed: u64) -> io::Result<()> {
+    for index in 0..count {
+        let kind = exchanges::KINDS[index as usize % exchanges::KINDS.len()];
+        let seed = seed_of(seed, index);
+        let name = format!("{index:06}-{kind}-{seed}");
+        let image = name.clone() + ".image";
+        let set = exchanges::words(kind, seed, &image);
+        if let Some(bytes) = &set.image {
+            fs::write(folder.join(image), bytes)?;
+        }
+        let lines: String = set.words.iter().map(|word| format!("{word}\n")).collect();
+        fs::write(folder.join(name.clone() + ".words"), lines)?;
+        fs::write(folder.join(name + ".expected"), exchange::exchange(&set.read()).0)?;
     }
     Ok(())
 }

@@ -1,6 +1,7 @@
 //! Self-tests: the bench frames of 01, the check sums, round trips, live
 //! reading against its wording, packets sent again (document 02, K2), the
-//! outcomes a replay cannot show.
+//! outcomes a replay cannot show. The sender's and the exchange's have files of
+//! their own.
 
 use crate::crc::{crc16, crc32};
 use crate::frame::{self, judge, parse, Front, MAX_DATA, MAX_FRAME};
@@ -9,19 +10,21 @@ use crate::reader::Reader;
 use crate::receiver::{Outcome, Receiver, Report, MAX_AREA, REPLY_ROOM};
 use crate::replay::{bench_receiver, replay_bytes, Replay, BENCH_AREA, BENCH_BOARD};
 use crate::rng::Rng;
+use crate::selftest_exchange;
+use crate::selftest_sender;
 use crate::session::{Board, Identity, Phase, Session, NO_NEXT_NUMBER};
 use crate::stored::{hex, stored};
 use crate::wire::{self, Image};
 
 /// Counts checks and prints those that fail.
 #[derive(Default)]
-struct Tally {
+pub struct Tally {
     checks: usize,
     failed: usize,
 }
 
 impl Tally {
-    fn holds(&mut self, what: &str, holds: bool) {
+    pub fn holds(&mut self, what: &str, holds: bool) {
         self.checks += 1;
         if !holds {
             self.failed += 1;
@@ -29,7 +32,7 @@ impl Tally {
         }
     }
 
-    fn same<T: PartialEq + std::fmt::Debug>(&mut self, what: &str, got: T, wanted: T) {
+    pub fn same<T: PartialEq + std::fmt::Debug>(&mut self, what: &str, got: T, wanted: T) {
         self.checks += 1;
         if got != wanted {
             self.failed += 1;
@@ -56,11 +59,13 @@ pub fn run() -> bool {
     last_packet_kept_and_forgotten(&mut tally);
     repeated_or_not(&mut tally);
     last_number(&mut tally);
+    selftest_sender::run(&mut tally);
+    selftest_exchange::run(&mut tally);
     println!("selftest: {} checks, {} failed", tally.checks, tally.failed);
     tally.failed == 0
 }
 
-fn unhex(text: &str) -> Vec<u8> {
+pub fn unhex(text: &str) -> Vec<u8> {
     let digits: Vec<u8> = text.bytes().filter(|byte| !byte.is_ascii_whitespace()).collect();
     let pair = |pair: &[u8]| u8::from_str_radix(std::str::from_utf8(pair).unwrap(), 16).unwrap();
     digits.chunks(2).map(pair).collect()
@@ -93,13 +98,13 @@ fn bitwise_crc32(bytes: &[u8]) -> u32 {
     !crc
 }
 
-const P1: &str = "55 AA 00 FE 00 01 0A 08";
+pub const P1: &str = "55 AA 00 FE 00 01 0A 08";
 const P2: &str = "55 AA 00 FE 00 02 0A 03 0C";
-const P3: &str = "55 AA 00 FA 00 03 0A 01 00 07";
-const P4: &str = "55 AA 00 FA 00 07 0A 00 01 00 02 02 00 0F";
-const P6: &str = "55 AA 00 FC 00 05 0A 00 00 00 00 0A";
-const P7: &str = "55 AA 10 FD 00 10 0A 00 00 00 09 4B 37 31 32 33 34 35 36 37 38 39 8E";
-const P8: &str = "55 AA 00 FD 00 02 0A 00 08";
+pub const P3: &str = "55 AA 00 FA 00 03 0A 01 00 07";
+pub const P4: &str = "55 AA 00 FA 00 07 0A 00 01 00 02 02 00 0F";
+pub const P6: &str = "55 AA 00 FC 00 05 0A 00 00 00 00 0A";
+pub const P7: &str = "55 AA 10 FD 00 10 0A 00 00 00 09 4B 37 31 32 33 34 35 36 37 38 39 8E";
+pub const P8: &str = "55 AA 00 FD 00 02 0A 00 08";
 const P9: &str = "55 AA 00 F9 00 08 01 0A 01 00 02 01 00 00 0F";
 
 /// A receiver with its area; frames go in whole, replies come out.

@@ -1,4 +1,4 @@
-//! The module's side: frames as the module sends them, for captures and tests.
+//! The module's side: frames as the module sends them, for captures, tests and the sender.
 
 use crate::crc::{crc16, crc32};
 use crate::frame::{self, MAX_FRAME};

@@ -4,3 +4,5 @@ pub mod Rows
 pub mod Replies
 pub mod ReplyFrames
 pub mod Searches
+mod RequestFrames
+pub mod RoundTrips

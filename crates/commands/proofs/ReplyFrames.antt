@@ -9,7 +9,7 @@ use Rattle.commands.specs.Search.{find}
 use Rattle.commands.specs.Table.{table, rowAt, placeOf}
 use Rattle.commands.specs.Replies.{maxReply, replyFA, replyFB, replyFC, replyState, replyFrame, hasReply}
 
-abbrev frame : ℕ → ℕ → List ℕ → Frame
+abbrev pub frame : ℕ → ℕ → List ℕ → Frame
 frame version command d = record { version = version; command = command; payload = d }
 
 pub record ReplyFrames : Type 0 where

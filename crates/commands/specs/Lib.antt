@@ -1,5 +1,9 @@
 -- The definitions that the contracts of `commands` cite, in the order of 01, "The six commands".
+pub mod Limits
 pub mod Search
 pub mod Table
 pub mod Requests
 pub mod Replies
+pub mod RequestFrames
+pub mod ReplyFields
+pub mod RoundTrips

@@ -9,15 +9,12 @@ use Rattle.frames.specs.Frame.{Frame}
 use Rattle.frames.specs.Numbers.{bytes16, bytes32}
 use Rattle.frames.specs.Finished.{zeros}
 use Rattle.frames.specs.Buffer.{writtenSize, writtenRoom}
+use Rattle.commands.specs.Limits.{maxPacket}
 use Rattle.commands.specs.Table.{placeOf, rowAt}
 
 -- the longest reply's data
 abbrev pub maxReply : ℕ
 maxReply = 26
-
--- "Len2 = 512"
-abbrev pub maxPacket : ℕ
-maxPacket = 512
 
 -- a version's three parts
 abbrev pub parts : List ℕ → List ℕ

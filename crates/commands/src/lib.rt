@@ -5,6 +5,9 @@
 // - `reply`: the data of what the controller answers, and its writing as a frame; version and length come from the table.
 //
 // Nothing above this crate knows where in a frame's data a field stands.
+pub mod limits;
 pub mod reply;
+pub mod reply_fields;
 pub mod request;
+pub mod request_frame;
 pub mod table;

@@ -1,4 +1,5 @@
 // The data of the controller's replies, and a reply as a frame. Data comes in an array of the longest reply's size, zeros past it.
+use crate::limits::MAX_PACKET;
 use crate::table;
 use frames::number::bytes16;
 use frames::number::bytes32;
@@ -9,9 +10,6 @@ ghost use Rattle.commands.specs.Replies.{maxReply, replyFA, replyFB, rep
 
 // The longest reply's data: FB's.
 pub const MAX_REPLY: usize = 26;
-
-// The most bytes of a packet: Len2 in FA's reply.
-pub const MAX_PACKET: usize = 512;
 
 pub fn none() -> [u8; MAX_REPLY]
     ensures { λ r. ⌜ r ≡ zeros maxReply ⌝ }

@@ -15,7 +15,8 @@ use Rattle.transfer.specs.Identities.{same, newer, sameIdentity}
 use Rattle.transfer.specs.FA.{answerFA}
 use Rattle.transfer.specs.FB.{stateFB, afterFB, grantFB, answerFB}
 use Rattle.transfer.specs.FC.{answerFC}
-use Rattle.transfer.specs.FD.{repeats, stateFD, takes, answerFD, writtenAt, areaFD}
+use Rattle.frames.specs.Places.{writtenAt}
+use Rattle.transfer.specs.FD.{repeats, stateFD, takes, answerFD, areaFD}
 use Rattle.transfer.specs.FE.{answerFE}
 use Rattle.session.specs.Boards.{placeOf, badList, listOf}
 use Rattle.session.specs.Opening.{freshSession, opened}

@@ -7,7 +7,7 @@ use native.Mathlib.Omega.{arith}
 use borrow.Author.Tests.{ltb-false, le-ltb, eqb-true, eq-eqb, not-false}
 use lib.Dec.{ltb, eqb}
 use Rattle.frames.specs.Frame.{maxFrame}
-use Rattle.transfer.proofs.Choices.{no-refusal, neither}
+use Rattle.frames.proofs.Choices.{no-refusal, neither}
 use Rattle.session.specs.Lawful.{unlawful}
 use Rattle.controller.specs.declared.record.Record.{Record}
 use Rattle.controller.specs.Records.{unlawfulRecord}

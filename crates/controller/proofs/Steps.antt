@@ -19,7 +19,7 @@ use Rattle.frames.proofs.Calls.{call-accepted, call-keeps, held-again}
 use Rattle.frames.proofs.Remains.{Remains, stateAfter, repliesOf, remains-called}
 use Rattle.commands.specs.Replies.{replyFrame, hasReply, replySize, replyRoom}
 use Rattle.commands.proofs.Replies.{unreplied-size, unreplied-room, reply-some, reply-front}
-use Rattle.transfer.proofs.Choices.{of-both}
+use Rattle.frames.proofs.Choices.{of-both}
 use Rattle.session.specs.declared.session.Session.{Session}
 use Rattle.session.specs.Lawful.{unlawful}
 use Rattle.session.specs.Answering.{answered, areaAfter}

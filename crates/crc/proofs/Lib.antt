@@ -6,3 +6,4 @@ pub mod TableStep
 pub mod Slicing
 pub mod Tables
 pub mod Vectors
+pub mod Widths

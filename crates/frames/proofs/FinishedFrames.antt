@@ -1,10 +1,16 @@
--- The fields of a finished frame. Assumes nothing.
-use mathlib.Core.Path.{_≡_, refl}
-use lib.ListN.{length, take}
+-- The fields of a finished frame, and how one is made from its parts. Assumes nothing.
+use mathlib.Core.Path.{_≡_, refl, sym, ap, ap₂, _∙_}
+use mathlib.Core.List.{List, [], _++_, append-assoc}
+use Prim.Native.Nat.{ℕ, _+_, _-_, _≤_}
+use native.Mathlib.Omega.{arith}
+use borrow.Author.Tests.{le-leb}
+use lib.ListN.{length, take, drop, length-append}
+use lib.Seq.{drop-drop, drop-at}
 use Rattle.frames.specs.Frame.{maxData, Frame}
-use Rattle.frames.specs.Finished.{zeros, padded, finished}
+use Rattle.frames.specs.Places.{writtenAt}
+use Rattle.frames.specs.Finished.{zeros, padded, finished, frameOf, noData, extended}
 use Rattle.frames.specs.LiveReading.{noFrame}
-use Rattle.frames.proofs.Padding.{take-padded}
+use Rattle.frames.proofs.Padding.{drop-zeros, take-padded}
 
 module _ (f : Frame) where
   pub finished-version : finished f .version ≡ f .version
@@ -28,7 +34,32 @@ module _ (f : Frame) where
   unfolding finished
   finished-payload = take-padded maxData (f .payload)
 
+  pub frame-of-finished : frameOf (finished f) ≡ f
+  unfolding finished
+  frame-of-finished = ap (λ (p : List ℕ). record { version = f .version; command = f .command; payload = p }) (take-padded maxData (f .payload))
+
 -- what is handed back in the place of a frame where there is none is all zero
 pub no-frame-zero : finished noFrame ≡ record { version = 0; command = 0; length = 0; bytes = zeros maxData }
 unfolding finished
 no-frame-zero = refl
+
+-- ---- made from its parts
+
+pub no-data : (version command : ℕ) → noData version command ≡ finished (record { version = version; command = command; payload = [] })
+unfolding finished
+no-data version command = refl
+
+-- a part that fits stands behind the data so far
+pub extended-finished : (f : Frame) (t : List ℕ) → length (f .payload) + length t ≤ maxData
+    → extended (finished f) t ≡ finished (record { version = f .version; command = f .command; payload = f .payload ++ t })
+unfolding extended finished writtenAt
+extended-finished f t fits =
+    let p = f .payload in
+    let n = length p + length t in
+    let bytes : take (length p) (padded maxData p) ++ (t ++ drop n (padded maxData p)) ≡ padded maxData (p ++ t) =
+    ap₂ (λ (a b : List ℕ). a ++ (t ++ b)) (take-padded maxData p)
+    (sym (drop-drop (length t) (length p) (padded maxData p)) ∙ ap (drop (length t)) (drop-at p (zeros (maxData - length p)) (length p) refl) ∙ drop-zeros (length t) (maxData - length p))
+    ∙ sym (append-assoc p t (zeros (maxData - length p - length t)))
+    ∙ ap (λ (k : ℕ). (p ++ t) ++ zeros k) (let e : maxData - length p - length t ≡ maxData - length (p ++ t) = omega (arith, length-append p t) in e) in
+    let ok = le-leb n maxData fits in
+    rw ok (ap₂ (λ (k : ℕ) (b : List ℕ). record { version = f .version; command = f .command; length = k; bytes = b }) (sym (length-append p t)) bytes)

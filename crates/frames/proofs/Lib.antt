@@ -1,10 +1,12 @@
 -- The laws that belong to no one function, by subject. The crates above cite those marked `pub mod`, and no definition's text.
 pub mod Orders
-mod Slices
+pub mod Choices
+pub mod Slices
 mod Looks
 mod Sums
 pub mod Bytes
 pub mod Padding
+pub mod Places
 pub mod FinishedFrames
 pub mod Fronts
 pub mod MoreBytes
@@ -13,6 +15,7 @@ pub mod Encodings
 mod Completions
 pub mod FrontMeanings
 pub mod RoundTrips
+pub mod OneFrames
 pub mod Readings
 mod Waits
 mod Turns

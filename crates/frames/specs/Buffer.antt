@@ -1,9 +1,10 @@
 -- 01, "The frame": the reader for a whole buffer and the writer. Assumes nothing.
 use mathlib.Core.Path.{_≡_}
+use mathlib.Core.Logic.{_↔_}
 use mathlib.Core.Bool.{Bool, true, cond, _&&_}
 use mathlib.Core.List.{List, [], _++_}
 use Prim.Native.Nat.{ℕ, _≤_}
-use lib.Dec.{leb}
+use lib.Dec.{leb, eqb}
 use lib.ListN.{length, take, drop}
 use Rattle.frames.specs.Frame.{Bytes, maxData, frameSize, Frame, encode, lengthAt, frameAt}
 use Rattle.frames.specs.Fronts.{frontOf, isWhole}
@@ -16,6 +17,23 @@ wholeAt s = isWhole (frontOf s)
 unfoldable pub dataAt : List ℕ → List ℕ
 unfolding wholeAt
 dataAt s = cond (wholeAt s) (frameAt s .payload) []
+
+-- one whole frame and nothing else: it begins at the first byte and ends at the last
+unfoldable pub aloneAt : List ℕ → Bool
+aloneAt s = wholeAt s && eqb (frameSize (length (dataAt s))) (length s)
+
+-- its version byte and command; 0 without a frame
+unfoldable pub versionAt : List ℕ → ℕ
+versionAt s = cond (wholeAt s) (frameAt s .version) 0
+
+unfoldable pub commandAt : List ℕ → ℕ
+commandAt s = cond (wholeAt s) (frameAt s .command) 0
+
+-- s is the bytes of one frame
+pub record OneFrame (s : List ℕ) : Type 0 where
+  pub frame : Frame
+  pub small : length (frame .payload) ≤ maxData
+  pub is : encode frame ≡ s
 
 -- "for data over 519 bytes or room below 7 + L it gives 0 and writes nothing"
 unfoldable pub writable : Frame → List ℕ → Bool
@@ -35,6 +53,13 @@ writtenRoom f room = cond (writable f room) (encode f ++ drop (frameSize (length
 pub record Written (f : Frame) (room : List ℕ) (size : ℕ) (after : List ℕ) : Type 0 where
   pub gives : size ≡ writtenSize f room
   pub leaves : after ≡ writtenRoom f room
+
+-- The claim: some bytes are one whole frame and nothing else exactly when they are a frame's bytes, and then its fields are read.
+pub record ReadsAlone : Type 0 where
+  pub means : (s : List ℕ) → Bytes s → (aloneAt s ≡ true) ↔ OneFrame s
+  pub version : (f : Frame) → length (f .payload) ≤ maxData → versionAt (encode f) ≡ f .version
+  pub command : (f : Frame) → length (f .payload) ≤ maxData → commandAt (encode f) ≡ f .command
+  pub «data» : (f : Frame) → length (f .payload) ≤ maxData → dataAt (encode f) ≡ f .payload
 
 -- The claim of the round trip: what the writer wrote, the reader reads back; and a whole frame is what the writer writes for its fields.
 pub record RoundTrip : Type 0 where

@@ -1,9 +1,12 @@
 -- A finished frame as the code hands it on: its data in an array of the largest size, with zeros past it. Assumes nothing.
+use mathlib.Core.Bool.{cond}
 use mathlib.Core.List.{List, _++_}
-use Prim.Native.Nat.{ℕ, _-_}
-use lib.ListN.{length, replicate}
+use Prim.Native.Nat.{ℕ, _+_, _-_}
+use lib.Dec.{leb}
+use lib.ListN.{length, take, replicate}
 use Rattle.frames.specs.declared.finished.FinishedFrame.{FinishedFrame}
 use Rattle.frames.specs.Frame.{maxData, Frame}
+use Rattle.frames.specs.Places.{writtenAt}
 
 abbrev pub zeros : ℕ → List ℕ
 zeros n = replicate n 0
@@ -14,3 +17,18 @@ padded n s = s ++ zeros (n - length s)
 
 unfoldable pub finished : Frame → FinishedFrame
 finished f = record { version = f .version; command = f .command; length = length (f .payload); bytes = padded maxData (f .payload) }
+
+-- the frame that it is: the first `length` of its bytes are its data
+abbrev pub frameOf : FinishedFrame → Frame
+frameOf f = record { version = f .version; command = f .command; payload = take (f .length) (f .bytes) }
+
+-- a frame that is being made: without data, and with t behind the data so far. Where that is too long for a frame it stays as it is
+abbrev pub noData : ℕ → ℕ → FinishedFrame
+noData version command = record { version = version; command = command; length = 0; bytes = zeros maxData }
+
+unfoldable pub extended : FinishedFrame → List ℕ → FinishedFrame
+extended f t =
+    let end = f .length + length t in
+    cond (leb end maxData)
+    (record { version = f .version; command = f .command; length = end; bytes = writtenAt (f .bytes) (f .length) t })
+    f

@@ -1,9 +1,10 @@
-// A frame at the first byte of a whole buffer. Bytes after the frame do not matter.
+// A frame at the first byte of a whole buffer. Bytes after the frame do not matter, but to `alone`.
+use crate::OVERHEAD;
 use crate::front::Front;
 use crate::front::front_of;
 use crate::header;
 ghost use mathlib.Core.Path.{_≡_};
-ghost use Rattle.frames.specs.Buffer.{wholeAt, dataAt};
+ghost use Rattle.frames.specs.Buffer.{wholeAt, dataAt, aloneAt, versionAt, commandAt};
 
 // Whether a whole frame begins at the first byte of s.
 pub fn whole(s: &[u8]) -> bool
@@ -28,4 +29,28 @@ pub fn data(s: &[u8]) -> &[u8]
     } else {
         &s[..0]
     }
+}
+
+// Whether s is one whole frame and nothing else.
+pub fn alone(s: &[u8]) -> bool
+    ensures { λ r. ⌜ r ≡ aloneAt (now (s .entry)) ⌝ }
+{
+    if whole(s) {
+        return OVERHEAD + data(s).len() == s.len();
+    }
+    false
+}
+
+// The version byte of the frame at the first byte of s; 0 without one.
+pub fn version(s: &[u8]) -> u8
+    ensures { λ r. ⌜ r ≡ versionAt (now (s .entry)) ⌝ }
+{
+    if whole(s) { s[header::VERSION] } else { 0 }
+}
+
+// Its command; 0 without one.
+pub fn command(s: &[u8]) -> u8
+    ensures { λ r. ⌜ r ≡ commandAt (now (s .entry)) ⌝ }
+{
+    if whole(s) { s[header::COMMAND] } else { 0 }
 }

@@ -8,8 +8,11 @@ use native.Mathlib.Omega.{arith}
 use lib.ListN.{length, take, set, getD, length-append, length-set}
 use lib.Seq.{take-all, take-suc, take-suc-set, length-take-le}
 use Rattle.io.specs.Digits.{digits, Fewest}
+use Rattle.text.specs.Hex.{hexByte, hexBytes}
+use Rattle.text.proofs.Hexes.{hexBytes-append, length-hexBytes}
+use Rattle.text.proofs.Digits.{is-decimal}
 use Rattle.replay.specs.declared.line.Line.{Line}
-use Rattle.replay.specs.Texts.{textOf, hexByte, hexBytes, replyText, Adds, AddsDecimal, Decimal}
+use Rattle.replay.specs.Texts.{textOf, replyText, Adds, AddsDecimal}
 
 pub adds-byte : (l : Line) (b : ℕ) → l .count < length (l .bytes) → Adds l (b ∷ []) (record { bytes = set (l .bytes) (l .count) b; count = l .count + 1 })
 adds-byte l b h =
@@ -45,14 +48,6 @@ pub adds-all : (l m : Line) (s : List ℕ) (i : ℕ) → length s ≤ i → Adds
 adds-all l m s i h f = subst (λ (t : List ℕ). Adds l t m) (take-all i s h) f
 
 -- ---- a reply, byte by byte
-
-hexBytes-append : (s t : List ℕ) → hexBytes (s ++ t) ≡ hexBytes s ++ hexBytes t
-hexBytes-append [] t = refl
-hexBytes-append (b ∷ s) t = ap (λ (x : List ℕ). hexByte b ++ x) (hexBytes-append s t)
-
-length-hexBytes : (s : List ℕ) → length (hexBytes s) ≡ 2 * length s
-length-hexBytes [] = refl
-length-hexBytes (b ∷ s) = omega (arith, length-hexBytes s)
 
 pub hex-next : (l m r : Line) (s : List ℕ) (i : ℕ) → i < length s → Adds l (hexBytes (take i s)) m → Adds m (hexByte (getD s i 0)) r → Adds l (hexBytes (take (i + 1) s)) r
 hex-next l m r s i h f g =
@@ -95,7 +90,7 @@ pub adds-decimal : {l r : Line} (n k : ℕ) (out : List ℕ) → n < 10 ^ 20 →
 adds-decimal n k out h c w e f =
     record {
       text = take k out;
-      is-decimal = record { fewest = subst (λ (j : ℕ). Fewest 10 1 n j) c w; spells = e ∙ ap (λ (j : ℕ). digits 10 j n) c };
+      is-decimal = is-decimal n k out c w e;
       short = omega (arith, twenty-digits n k h w);
       adds = f;
     }

@@ -1,4 +1,3 @@
 -- The laws that the functions' own files cite.
 pub mod Adding
-pub mod Fronts
 pub mod Turns

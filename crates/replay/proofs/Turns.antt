@@ -1,18 +1,21 @@
 -- From a call's contract to a turn's. Assumes nothing.
-use mathlib.Core.Path.{_≡_, sym, ap, subst, _∙_}
+use mathlib.Core.Path.{_≡_, ap, subst, _∙_}
 use mathlib.Core.List.{List}
 use Prim.Native.Nat.{ℕ, _-_, min}
-use lib.ListN.{length, take, drop}
+use lib.ListN.{length, take, length-drop, length-take}
 use lib.Seq.{slice}
 use Rattle.controller.specs.declared.call.Called.{Called}
-use Rattle.controller.specs.Calls.{CallLeaves, Leaves, fedCall}
+use Rattle.controller.specs.Calls.{CallLeaves, Leaves}
 use Rattle.replay.specs.declared.run.Run.{Run}
 use Rattle.replay.specs.declared.run.Stage.{Stage}
-use Rattle.replay.specs.Runs.{Follows, Passes, feedTurn, freshRoom, stageQuiet}
-use Rattle.replay.proofs.Fronts.{take-fit, slice-cut}
+use Rattle.replay.specs.Runs.{Follows, Passes, stageQuiet}
+
+-- what is left in the input buffer: it may have less than is said to be in it
+pub length-left : (at end : ℕ) (input : List ℕ) → length (slice at end input) ≡ min end (length input) - at
+length-left at end input = length-drop at (take end input) ∙ ap (λ (n : ℕ). n - at) (length-take end input)
 
 module _ {run r : Run} {k : Called} {room buffer after area : List ℕ} {stage : Stage} where
-  passes : {x : CallLeaves} → Leaves x k room area → Follows run k room buffer stage r after → Passes run x buffer stage r after area
+  pub passes : {x : CallLeaves} → Leaves x k room area → Follows run k room buffer stage r after → Passes run x buffer stage r after area
   passes {x} l f =
       record {
         follows = subst (λ (s : List ℕ). Follows run (x .called) s buffer stage r after) (l .leaves-room) (subst (λ (c : Called). Follows run c room buffer stage r after) (l .gives) f);
@@ -25,16 +28,3 @@ module _ {run r : Run} {k : Called} {room buffer after area : List ℕ} {stage :
       → Passes run x buffer (stageQuiet (x .called .next)) r after area
   passes-quiet {x} e l f =
       subst (λ (s : Stage). Passes run x buffer s r after area) (e ∙ ap (λ (c : Called). stageQuiet (c .next)) (l .gives)) (passes l f)
-
-  -- the code cuts the input at the buffer's end, if that comes first
-  pub passes-cut :
-      (n : ℕ)
-      (input area₀ : List ℕ)
-      → n ≡ min (run .end) (length input)
-      → Leaves (fedCall (take (n - run .at) (drop (run .at) input)) (run .«record») freshRoom area₀) k room area
-      → Follows run k room buffer stage r after
-      → Passes run (feedTurn run input area₀) buffer stage r after area
-  passes-cut n input area₀ e l f =
-      let same : take (n - run .at) (drop (run .at) input) ≡ slice (run .at) (run .end) input =
-      sym (slice-cut (run .at) n input) ∙ ap (drop (run .at)) (ap (λ (m : ℕ). take m input) e ∙ take-fit (run .end) input) in
-      subst (λ (s : List ℕ). Passes run (fedCall s (run .«record») freshRoom area₀) buffer stage r after area) same (passes l f)

@@ -1,4 +1,3 @@
 -- The definitions that the contracts of `replay` cite.
 pub mod Texts
-pub mod Outputs
 pub mod Runs

@@ -12,12 +12,12 @@ use Rattle.session.specs.Outcomes.{noFrame}
 use Rattle.controller.specs.declared.call.Called.{Called}
 use Rattle.controller.specs.Calls.{CallLeaves, minRoom, fedCall, quietedCall}
 use Rattle.controller.specs.declared.record.Record.{Record}
-use Rattle.replay.specs.declared.output.Lines.{Lines}
+use Rattle.text.specs.declared.output.Output.{Output}
+use Rattle.text.specs.Outputs.{nothing, Flushed, TextAdded}
 use Rattle.replay.specs.declared.run.Run.{Run}
 use Rattle.replay.specs.declared.run.Stage.{Stage}
 use Rattle.replay.specs.declared.run.Stage.the-variants.{Feeding, Quiet, Ended, ReadFailed}
 use Rattle.replay.specs.Texts.{FrameText}
-use Rattle.replay.specs.Outputs.{Flushed, LineAdded}
 
 -- nothing is to be done in this stage any more
 abbrev pub over : Stage → Bool
@@ -39,7 +39,7 @@ isOver run = run .lines .failed || over (run .stage)
 -- "opens this board .. reads a capture": nothing is read, dropped or written yet
 abbrev pub startOf : Record → Run
 startOf r =
-    record { «record» = r; stage = Feeding; at = 0; end = 0; place = 0; dropped = 0; lines = record { waiting = 0; failed = false } }
+    record { «record» = r; stage = Feeding; at = 0; end = 0; place = 0; dropped = 0; lines = nothing }
 
 -- the program's counts have 64 bits, more than a capture can fill
 abbrev pub sum : ℕ → ℕ → ℕ
@@ -54,13 +54,13 @@ abbrev pub placeAfter : Run → Called → ℕ
 placeAfter run c = cond (eqb (c .outcome) noFrame) (placeIn run c) (sum (sum (placeIn run c) 7) (c .«data_length»))
 
 -- the line of the frame that a call ended at is added; `room` holds its reply
-pub record FrameAdded (place : ℕ) (c : Called) (room : List ℕ) (l : Lines) (buffer : List ℕ) (r : Lines) (after : List ℕ) : Type 0 where
+pub record FrameAdded (place : ℕ) (c : Called) (room : List ℕ) (l : Output) (buffer : List ℕ) (r : Output) (after : List ℕ) : Type 0 where
   pub text : List ℕ
   pub says : FrameText place (c .command) (c .outcome) (take (c .«reply_length») room) text
-  pub adds : LineAdded l text buffer r after
+  pub adds : TextAdded l text buffer r after
 
 -- "writes, per frame, ..": a line for a call that ended at a frame, and none for another
-pub record Writes (place : ℕ) (c : Called) (room : List ℕ) (l : Lines) (buffer : List ℕ) (r : Lines) (after : List ℕ) : Type 0 where
+pub record Writes (place : ℕ) (c : Called) (room : List ℕ) (l : Output) (buffer : List ℕ) (r : Output) (after : List ℕ) : Type 0 where
   pub nothing : c .outcome ≡ noFrame → (r ≡ l) × (after ≡ buffer)
   pub line : (c .outcome ≡ noFrame → ⊥) → FrameAdded place c room l buffer r after
 
@@ -111,7 +111,7 @@ pub record AfterRead (end : ℕ) (stage : Stage) : Type 0 where
   pub not-ended : stage ≡ Ended → ⊥
 
 -- the run with a new input buffer up to `end`
-abbrev pub refilled : Run → Stage → ℕ → Lines → Run
+abbrev pub refilled : Run → Stage → ℕ → Output → Run
 refilled run stage end l = record { «record» = run .«record»; stage = stage; at = 0; end = end; place = run .place; dropped = run .dropped; lines = l }
 
 -- the lines were written and the input buffer was read anew, and else nothing changed

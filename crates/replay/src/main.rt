@@ -10,13 +10,13 @@
 // Rattle program has no other.
 mod bench;
 mod line;
-mod output;
 mod run;
 
 use libc::STDERR_FILENO;
 use line::Line;
-use output::SIZE;
 use run::Run;
+use text::output::SIZE;
+use text::part::front;
 
 fn main() {
     let mut area = io::large_buffer();
@@ -47,9 +47,11 @@ fn report(run: Run, output: &mut [u8; SIZE]) {
         complain(b"replay: cannot read standard input\n");
         return;
     }
+    let line = Line::end(run.dropped);
+    let bytes = line.bytes;
     let lines = run.lines;
     let written = lines
-        .add(Line::end(run.dropped), &mut *output)
+        .text(front(&bytes, line.count), &mut *output)
         .flush(output);
     if written.failed {
         complain(b"replay: cannot write to standard output\n");

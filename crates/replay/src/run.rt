@@ -1,18 +1,18 @@
 // The run over a capture, turn by turn.
 use crate::line::Line;
-use crate::output::Lines;
-use crate::output::SIZE;
-use crate::output::fit;
 use controller::call::Called;
 use controller::call::MIN_ROOM;
 use controller::record::Record;
 use frames::OVERHEAD;
 use libc::STDIN_FILENO;
 use session::outcome;
+use text::output::Output;
+use text::output::SIZE;
+use text::part::behind;
+use text::part::front;
 ghost use mathlib.Core.Path.{_≡_};
-ghost use Prim.Native.Nat.{_≤_};
 ghost use lib.ListN.{take};
-ghost use Rattle.replay.specs.Texts.{maxLine, textOf, FrameText};
+ghost use Rattle.replay.specs.Texts.{textOf, FrameText};
 ghost use Rattle.replay.specs.Runs.{sum, placeIn, stageQuiet, stageRead, AfterRead, refilled, readFailed, isOver, startOf, Follows, Quieted, ReadsOn, FeedsOrReads, Turned};
 
 // Where a run stands: it feeds what it reads; after the last byte it tells quiet until nothing is held.
@@ -35,17 +35,13 @@ pub struct Run {
     // the capture's place of the first byte that is neither dropped nor of a frame that was read
     pub place: u64,
     pub dropped: u64,
-    pub lines: Lines,
+    pub lines: Output,
 }
 
 impl Run {
     pub(crate) fn start(record: Record) -> Run
         ensures { λ r. ⌜ r ≡ startOf «record» ⌝ }
     {
-        let lines = Lines {
-            waiting: 0,
-            failed: false,
-        };
         Run {
             record,
             stage: Stage::Feeding,
@@ -53,7 +49,7 @@ impl Run {
             end: 0,
             place: 0,
             dropped: 0,
-            lines,
+            lines: Output::empty(),
         }
     }
 
@@ -102,15 +98,14 @@ impl Run {
     fn feed(self, input: &mut [u8], output: &mut [u8; SIZE], area: &mut [u8]) -> Run
         ensures { λ r. ⌜ FeedsOrReads self (now (input .entry)) (now (output .entry)) (now (area .entry)) r (now (input .exit)) (now (output .exit)) (now (area .exit)) ⌝ }
     {
-        let end = fit(self.end, input);
-        let at = self.at;
-        if at < end {
-            let mut room = [0u8; MIN_ROOM];
-            let record = self.record;
-            let c = record.feed(&input[at..end], &mut room, area);
-            return self.after(c, Stage::Feeding, &room, output);
+        let left = behind(front(input, self.end), self.at);
+        if left.len() == 0 {
+            return self.read(input, output);
         }
-        self.read(input, output)
+        let mut room = [0u8; MIN_ROOM];
+        let record = self.record;
+        let c = record.feed(left, &mut room, area);
+        self.after(c, Stage::Feeding, &room, output)
     }
 
     // The lines go out first: a read may wait long, and who reads them should not wait with it.
@@ -137,7 +132,7 @@ impl Run {
     }
 
     // The input buffer is new up to `end`.
-    fn filled(self, stage: Stage, end: usize, lines: Lines) -> Run
+    fn filled(self, stage: Stage, end: usize, lines: Output) -> Run
         ensures { λ r. ⌜ r ≡ refilled self stage end lines ⌝ }
     {
         let record = self.record;
@@ -173,7 +168,8 @@ impl Run {
             };
         }
         let line = self.line_of(c, room);
-        let added = lines.add(line, output);
+        let bytes = line.bytes;
+        let added = lines.text(front(&bytes, line.count), output);
         Run {
             record,
             stage,
@@ -188,12 +184,11 @@ impl Run {
     // The line of the frame that a call ended at.
     fn line_of(self, c: Called, room: &[u8; MIN_ROOM]) -> Line
         ensures { λ r. ⌜ FrameText (placeIn self c) (c .command) (c .outcome) (take (c .«reply_length») (now (room .entry))) (textOf r) ⌝ }
-        ensures { λ r. ⌜ r .count ≤ maxLine ⌝ }
     {
         let place = plus(self.place, c.dropped);
         let all: &[u8] = room;
-        let n = fit(c.reply_length, all);
-        Line::frame(place, c.command, c.outcome, &all[..n])
+        let reply = front(all, c.reply_length);
+        Line::frame(place, c.command, c.outcome, reply)
     }
 }
 

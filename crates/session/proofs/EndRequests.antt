@@ -22,7 +22,7 @@ use Rattle.transfer.specs.declared.state.Step.{Step}
 use Rattle.transfer.specs.Phases.{receivingOrDone}
 use Rattle.transfer.specs.Transfers.{otherChannel}
 use Rattle.transfer.specs.FE.{rightCrc, answerFE}
-use Rattle.transfer.proofs.Choices.{neither}
+use Rattle.frames.proofs.Choices.{neither}
 use Rattle.transfer.proofs.PhaseLaws.{image-busy, ending-image}
 use Rattle.session.specs.declared.session.Session.{Session}
 use Rattle.session.specs.declared.answer.Answer.{Answer}

@@ -15,7 +15,7 @@ use Rattle.commands.specs.declared.request.RequestFB.{RequestFB}
 use Rattle.commands.specs.declared.request.RequestFC.{RequestFC}
 use Rattle.commands.specs.declared.request.RequestFD.{RequestFD}
 use Rattle.commands.specs.Requests.{channelOf, requestFA, requestFB, requestFC, requestFD, packetOf}
-use Rattle.commands.specs.Replies.{maxPacket}
+use Rattle.commands.specs.Limits.{minPacket, maxPacket}
 use Rattle.transfer.specs.declared.phase.Phase.the-variants.{Idle, Told, Done}
 use Rattle.transfer.specs.declared.board.Board.{Board}
 use Rattle.transfer.specs.declared.state.Transfer.{Transfer}
@@ -23,14 +23,16 @@ use Rattle.transfer.specs.declared.state.Step.{Step}
 use Rattle.transfer.specs.Phases.{idle, hasImage, toldOrReceiving, receiving, receivingOrDone}
 use Rattle.transfer.specs.Identities.{same, newer, identityOf, sameIdentity}
 use Rattle.transfer.specs.Transfers.{maxNext, withPhase, otherChannel}
-use Rattle.transfer.specs.FA.{minPacket, refusedFA, agreedSize, answerFA}
+use Rattle.transfer.specs.FA.{refusedFA, agreedSize, answerFA}
 use Rattle.transfer.specs.FB.{stateFB, afterFB, grantFB, answerFB}
 use Rattle.transfer.specs.FC.{answerFC}
-use Rattle.transfer.specs.FD.{takes, answerFD, areaFD, writtenAt}
+use Rattle.frames.specs.Places.{writtenAt}
+use Rattle.transfer.specs.FD.{takes, answerFD, areaFD}
 use Rattle.transfer.specs.FE.{rightCrc, answerFE}
-use Rattle.transfer.proofs.Choices.{no-refusal, neither, of-both, of-each}
+use Rattle.frames.proofs.Choices.{no-refusal, neither, of-both, of-each}
 use Rattle.transfer.proofs.PhaseLaws.{image-busy, receiving-busy, started-image, ending-image}
-use Rattle.transfer.proofs.Packets.{taken, written-size}
+use Rattle.frames.proofs.Places.{written-size}
+use Rattle.transfer.proofs.Packets.{taken}
 use Rattle.session.specs.declared.session.Session.{Session}
 use Rattle.session.specs.declared.answer.Answer.{Answer}
 use Rattle.session.specs.Boards.{pastBoard, placeOf}

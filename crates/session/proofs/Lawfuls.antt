@@ -6,17 +6,16 @@ use Prim.Native.Nat.{ℕ, _≤_, _<_}
 use native.Mathlib.Omega.{arith}
 use borrow.Author.Tests.{ltb-true, ltb-false, lt-ltb, le-ltb, eqb-false, ne-eqb, not-false}
 use lib.Dec.{ltb, eqb}
-use Rattle.commands.specs.Replies.{maxPacket}
+use Rattle.commands.specs.Limits.{minPacket, maxPacket, maxArea}
 use Rattle.transfer.specs.declared.board.Board.{Board}
 use Rattle.transfer.specs.declared.state.Transfer.{Transfer}
 use Rattle.transfer.specs.Phases.{idle, hasImage}
 use Rattle.transfer.specs.Transfers.{maxNext, Sound}
-use Rattle.transfer.specs.FA.{minPacket}
-use Rattle.transfer.proofs.Choices.{neither}
+use Rattle.frames.proofs.Choices.{neither}
 use Rattle.transfer.proofs.PhaseLaws.{image-busy}
 use Rattle.session.specs.declared.session.Session.{Session}
 use Rattle.session.specs.Boards.{maxBoards, placeOf, badList}
-use Rattle.session.specs.Opening.{maxArea, badArea}
+use Rattle.session.specs.Opening.{badArea}
 use Rattle.session.specs.Lawful.{badLengths, badLast, badSize, badSessionFields, unlawful, Lawful}
 
 pub list-fits : (bs : List Board) (n : ℕ) → badList bs n ≡ false → n ≤ maxBoards

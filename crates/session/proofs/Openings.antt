@@ -10,11 +10,12 @@ use lib.ListN.{length, getD, take, replicate, List·getD-append}
 use lib.Seq.{length-take-le, getD-take}
 use Rattle.commands.specs.Search.{find}
 use Rattle.transfer.specs.declared.board.Board.{Board}
-use Rattle.transfer.proofs.Choices.{neither}
+use Rattle.frames.proofs.Choices.{neither}
 use Rattle.session.specs.declared.session.Session.{Session}
 use Rattle.session.specs.Outcomes.{isAnswered}
 use Rattle.session.specs.Boards.{maxBoards, noBoard, pastBoard, channelAt, hasChannel, placeOf, badBoard, badList, listOf}
-use Rattle.session.specs.Opening.{maxArea, badArea, noSession, freshSession, opened}
+use Rattle.commands.specs.Limits.{maxArea}
+use Rattle.session.specs.Opening.{badArea, noSession, freshSession, opened}
 use Rattle.session.specs.Lawful.{unlawful, Lawful}
 use Rattle.session.proofs.Lawfuls.{list-fits, lawful-accepted}
 

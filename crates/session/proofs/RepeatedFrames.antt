@@ -19,9 +19,10 @@ use Rattle.transfer.specs.declared.state.Transfer.{Transfer}
 use Rattle.transfer.specs.declared.state.Step.{Step}
 use Rattle.transfer.specs.Phases.{receiving}
 use Rattle.transfer.specs.Transfers.{afterPacket, replied}
-use Rattle.transfer.specs.FD.{lastStored, stateFD, takes, answerFD, writtenAt, areaFD}
+use Rattle.frames.specs.Places.{writtenAt}
+use Rattle.transfer.specs.FD.{lastStored, stateFD, takes, answerFD, areaFD}
 use Rattle.transfer.specs.Repeats.{Leg}
-use Rattle.transfer.proofs.Choices.{neither, of-both, of-each}
+use Rattle.frames.proofs.Choices.{neither, of-both, of-each}
 use Rattle.transfer.proofs.PhaseLaws.{receiving-busy}
 use Rattle.transfer.proofs.Packets.{taken}
 use Rattle.transfer.proofs.Results.{packet-counted}

@@ -16,7 +16,7 @@ use Rattle.frames.proofs.Padding.{drop-zeros}
 use Rattle.frames.proofs.Writes.{writable-fits}
 use Rattle.frames.proofs.RoundTrips.{size-written, room-written, frame-written}
 use Rattle.transfer.specs.declared.board.Board.{Board}
-use Rattle.transfer.specs.FD.{writtenAt}
+use Rattle.frames.specs.Places.{writtenAt}
 use Rattle.session.specs.declared.session.Session.{Session}
 use Rattle.session.specs.Boards.{maxBoards, pastBoard}
 use Rattle.session.specs.Report.{boardBytes, boardsBytes, reportBytes, maxReport, reportFrame, reportSize, reportRoom}

@@ -21,7 +21,7 @@ use Rattle.transfer.specs.FB.{stateFB, grantFB, answerFB}
 use Rattle.transfer.specs.FC.{answerFC}
 use Rattle.transfer.specs.FD.{answerFD, areaFD}
 use Rattle.transfer.specs.FE.{rightCrc, answerFE}
-use Rattle.transfer.proofs.Choices.{of-both}
+use Rattle.frames.proofs.Choices.{of-both}
 use Rattle.session.specs.declared.session.Session.{Session}
 use Rattle.session.specs.declared.answer.Answer.{Answer}
 use Rattle.session.specs.Outcomes.{isAnswered}

@@ -7,15 +7,14 @@ use mathlib.Core.Bool.{Bool, true, false, cond, not, _||_}
 use mathlib.Core.List.{List}
 use Prim.Native.Nat.{ℕ, _≤_, _<_}
 use lib.Dec.{ltb, eqb}
-use Rattle.commands.specs.Replies.{maxPacket}
+use Rattle.commands.specs.Limits.{minPacket, maxPacket, maxArea}
 use Rattle.transfer.specs.declared.board.Board.{Board}
 use Rattle.transfer.specs.declared.state.Transfer.{Transfer}
 use Rattle.transfer.specs.Phases.{idle, hasImage}
 use Rattle.transfer.specs.Transfers.{maxNext}
-use Rattle.transfer.specs.FA.{minPacket}
 use Rattle.session.specs.declared.session.Session.{Session}
 use Rattle.session.specs.Boards.{placeOf, badList}
-use Rattle.session.specs.Opening.{maxArea, badArea}
+use Rattle.session.specs.Opening.{badArea}
 
 -- "stored is above announced or announced above the opened length; next number is above 65,536"
 abbrev pub badLengths : Transfer → ℕ → Bool

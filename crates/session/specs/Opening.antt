@@ -4,6 +4,7 @@ use mathlib.Core.List.{List}
 use Prim.Native.Nat.{ℕ}
 use lib.Dec.{ltb}
 use lib.ListN.{replicate}
+use Rattle.commands.specs.Limits.{maxArea}
 use Rattle.transfer.specs.declared.board.Board.{Board}
 use Rattle.transfer.specs.Transfers.{noTransfer}
 use Rattle.session.specs.declared.session.Session.{Session}
@@ -12,9 +13,6 @@ use Rattle.session.specs.Outcomes.{isAnswered, badAreaLength, badBoards}
 use Rattle.session.specs.Boards.{maxBoards, noBoard, badList, listOf}
 
 -- "the area's length, 1 to 1,048,576"
-abbrev pub maxArea : ℕ
-maxArea = 1048576
-
 abbrev pub badArea : ℕ → Bool
 badArea n = ltb n 1 || ltb maxArea n
 

@@ -2,8 +2,8 @@
 use crate::list;
 use crate::session::Session;
 use crate::session::bad_area;
-use commands::reply::MAX_PACKET;
-use transfer::MIN_PACKET;
+use commands::limits::MAX_PACKET;
+use commands::limits::MIN_PACKET;
 use transfer::board::Board;
 use transfer::phase::has_image;
 use transfer::phase::is_idle;

@@ -7,7 +7,7 @@ use transfer::board::Board;
 ghost use mathlib.Core.Path.{_≡_};
 ghost use Prim.Native.Nat.{_+_, _*_, _≤_};
 ghost use Rattle.frames.specs.Finished.{padded};
-ghost use Rattle.transfer.specs.FD.{writtenAt};
+ghost use Rattle.frames.specs.Places.{writtenAt};
 ghost use Rattle.session.specs.Boards.{maxBoards};
 ghost use Rattle.session.specs.Report.{boardBytes, reportBytes, maxReport, ReportWritten};
 

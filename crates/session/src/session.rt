@@ -1,13 +1,11 @@
 // The session by value, and its opening.
 use crate::list;
 use crate::outcome;
+use commands::limits::MAX_AREA;
 use transfer::board::Board;
 use transfer::state::Transfer;
 ghost use mathlib.Core.Path.{_≡_};
 ghost use Rattle.session.specs.Opening.{badArea, noSession, opened};
-
-// The largest area.
-pub const MAX_AREA: usize = 1048576;
 
 pub struct Session {
     pub boards: [Board; list::MAX_BOARDS],

@@ -1,5 +1,4 @@
 -- The laws that belong to no one function, by subject.
-pub mod Choices
 pub mod PhaseLaws
 pub mod Sames
 pub mod Packets

@@ -1,10 +1,9 @@
 -- What holds of a packet that is taken and of one that is repeated, and how a packet is written into the area. Assumes nothing.
-use mathlib.Core.Path.{_≡_, refl, sym, ap, ap₂, _∙_}
-use mathlib.Core.List.{List, [], _++_, append-nil}
+use mathlib.Core.Path.{_≡_, refl, sym, ap, _∙_}
+use mathlib.Core.List.{List}
 use Prim.Native.Nat.{ℕ, _+_, _-_, _≤_}
 use native.Mathlib.Omega.{arith}
-use lib.ListN.{length, take, drop, length-append, length-drop, drop-of-length-le}
-use lib.Seq.{take-all, take-length, drop-drop, length-take-le}
+use lib.ListN.{length, take, drop}
 use mathlib.Core.Logic.{⊎-elim}
 use mathlib.Core.Bool.{Bool, true, false, not, _&&_, and-eq-true-iff}
 use lib.Dec.{ltb, eqb}
@@ -12,33 +11,9 @@ use borrow.Author.Tests.{lt-ltb, le-ltb, ltb-false, eqb-true, eqb-false, eq-eqb,
 use Rattle.frames.proofs.Orders.{lt-or-le}
 use Rattle.commands.specs.declared.request.RequestFD.{RequestFD}
 use Rattle.transfer.specs.declared.state.Transfer.{Transfer}
-use Rattle.transfer.specs.FD.{notReceivingHere, wrongSize, wrongCrc, lastStored, repeats, stateFD, takes, writtenAt}
-use Rattle.transfer.proofs.Choices.{no-refusal, neither}
+use Rattle.transfer.specs.FD.{notReceivingHere, wrongSize, wrongCrc, lastStored, repeats, stateFD, takes}
+use Rattle.frames.proofs.Choices.{no-refusal, neither}
 use Rattle.transfer.proofs.Sames.{same-equal}
-
--- the part from `at` on, copied to and put back
-pub part-written : (area p q : List ℕ) (at m : ℕ) → m ≡ length area - at → at + length p ≤ length area
-    → q ≡ take (length p) p ++ drop (length p) (take m (drop at area)) → take at area ++ (q ++ drop m (drop at area)) ≡ writtenAt area at p
-unfolding writtenAt
-part-written area p q at m em h eq =
-    let l : length (drop at area) ≤ m = omega (arith, length-drop at area) in
-    let all : take m (drop at area) ≡ drop at area = take-all m (drop at area) l in
-    let none : drop m (drop at area) ≡ [] = drop-of-length-le (drop at area) l in
-    let part : q ≡ p ++ drop (at + length p) area =
-    eq ∙ ap₂ _++_ (take-length p) (ap (drop (length p)) all ∙ drop-drop (length p) at area) in
-    ap (λ (x : List ℕ). take at area ++ x) (ap₂ _++_ part none ∙ append-nil (p ++ drop (at + length p) area))
-
--- the area keeps its length
-pub written-size : (area p : List ℕ) (at : ℕ) → at + length p ≤ length area → length (writtenAt area at p) ≡ length area
-unfolding writtenAt
-written-size area p at h =
-    omega (
-      arith,
-      length-append (take at area) (p ++ drop (at + length p) area),
-      length-append p (drop (at + length p) area),
-      length-drop (at + length p) area,
-      length-take-le at area (omega arith),
-    )
 
 -- what is left of a length, compared without a sum
 pub room-left : (m s n : ℕ) → s ≤ m → ltb (m - s) n ≡ ltb m (s + n)

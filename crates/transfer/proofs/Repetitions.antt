@@ -22,10 +22,11 @@ use Rattle.transfer.specs.Transfers.{afterPacket, otherChannel, replied,
 use Rattle.transfer.specs.FA.{refusedFA, answerFA}
 use Rattle.transfer.specs.FB.{stateFB, afterFB, grantFB, answerFB}
 use Rattle.transfer.specs.FC.{answerFC}
-use Rattle.transfer.specs.FD.{lastStored, repeats, stateFD, takes, answerFD, writtenAt, areaFD}
+use Rattle.frames.specs.Places.{writtenAt}
+use Rattle.transfer.specs.FD.{lastStored, repeats, stateFD, takes, answerFD, areaFD}
 use Rattle.transfer.specs.FE.{answerFE}
 use Rattle.transfer.specs.Repeats.{Packet, Leg, stateTo, answerTo, after, afterAll, NoneOf, Repetition, RepeatedPacket, LastLength}
-use Rattle.transfer.proofs.Choices.{of-both, of-each}
+use Rattle.frames.proofs.Choices.{of-both, of-each}
 use Rattle.transfer.proofs.Sames.{same-self}
 use Rattle.transfer.proofs.Packets.{Repeated, repeated, Taken, taken, passed, taken-state}
 use Rattle.transfer.proofs.Results.{packet-counted, packet-not-taken, end-failed}

@@ -16,9 +16,10 @@ use Rattle.transfer.specs.declared.state.Step.{Step}
 use Rattle.transfer.specs.Phases.{receivingOrDone}
 use Rattle.transfer.specs.Identities.{noIdentity}
 use Rattle.transfer.specs.Transfers.{maxNext, afterPacket, withProgress, otherChannel, replied}
-use Rattle.transfer.specs.FD.{repeats, stateFD, takes, answerFD, writtenAt, areaFD}
+use Rattle.frames.specs.Places.{writtenAt}
+use Rattle.transfer.specs.FD.{repeats, stateFD, takes, answerFD, areaFD}
 use Rattle.transfer.specs.FE.{rightCrc, answerFE}
-use Rattle.transfer.proofs.Choices.{of-both}
+use Rattle.frames.proofs.Choices.{of-both}
 use Rattle.transfer.proofs.Packets.{taken, taken-state}
 
 module _ (t : Transfer) (r : RequestFD) (p area : List ℕ) where

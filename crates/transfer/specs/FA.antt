@@ -5,15 +5,12 @@ use mathlib.Core.Bool.{Bool, cond, not, _||_}
 use Prim.Native.Nat.{ℕ}
 use lib.Dec.{ltb}
 use Rattle.commands.specs.declared.request.RequestFA.{RequestFA}
-use Rattle.commands.specs.Replies.{maxPacket, replyFA}
+use Rattle.commands.specs.Limits.{minPacket, maxPacket}
+use Rattle.commands.specs.Replies.{replyFA}
 use Rattle.transfer.specs.declared.board.Board.{Board}
 use Rattle.transfer.specs.declared.state.Transfer.{Transfer}
 use Rattle.transfer.specs.declared.state.Step.{Step}
 use Rattle.transfer.specs.Transfers.{asked, replied}
-
--- the least packet size
-abbrev pub minPacket : ℕ
-minPacket = 16
 
 abbrev pub refusedFA : Board → RequestFA → Bool
 refusedFA b r = not (b .permit) || ltb (r .len1) minPacket

@@ -4,10 +4,11 @@
 -- by 1." Between 04 and 01 stands document 02's test for a packet that is sent again because its reply was lost (K2). p is the packet's
 -- L - 7 bytes. Assumes nothing.
 use mathlib.Core.Bool.{Bool, cond, not, _||_, _&&_}
-use mathlib.Core.List.{List, _++_}
+use mathlib.Core.List.{List}
 use Prim.Native.Nat.{ℕ, _+_, _-_}
 use lib.Dec.{ltb, eqb}
 use lib.ListN.{length, take, drop}
+use Rattle.frames.specs.Places.{writtenAt}
 use Rattle.crc.specs.Crc.{checksum, crc16-modbus}
 use Rattle.commands.specs.declared.request.RequestFD.{RequestFD}
 use Rattle.commands.specs.Replies.{replyState}
@@ -56,10 +57,6 @@ takes t r p area = eqb (stateFD t r p area) 0 && not (repeats t r p area)
 
 unfoldable pub answerFD : Transfer → RequestFD → List ℕ → List ℕ → Step
 answerFD t r p area = replied (cond (takes t r p area) (afterPacket t (length p)) t) (replyState (r .channel) (stateFD t r p area))
-
--- the area with p from place `at` on
-unfoldable pub writtenAt : List ℕ → ℕ → List ℕ → List ℕ
-writtenAt area at p = take at area ++ (p ++ drop (at + length p) area)
 
 unfoldable pub areaFD : Transfer → RequestFD → List ℕ → List ℕ → List ℕ
 areaFD t r p area = cond (takes t r p area) (writtenAt area (t .stored) p) area

@@ -1,8 +1,9 @@
 // FA: may an image be sent?
-use crate::MIN_PACKET;
 use crate::board::Board;
 use crate::state::Step;
 use crate::state::Transfer;
+use commands::limits::MAX_PACKET;
+use commands::limits::MIN_PACKET;
 use commands::reply;
 use commands::request::RequestFA;
 ghost use mathlib.Core.Path.{_≡_};
@@ -33,8 +34,8 @@ fn refused(r: RequestFA, board: Board) -> bool
 fn agreed(len1: usize) -> usize
     ensures { λ x. ⌜ x ≡ agreedSize len1 ⌝ }
 {
-    if len1 < reply::MAX_PACKET {
+    if len1 < MAX_PACKET {
         return len1;
     }
-    reply::MAX_PACKET
+    MAX_PACKET
 }

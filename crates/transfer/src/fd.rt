@@ -11,7 +11,8 @@ ghost use Prim.Native.Nat.{_+_, _≤_};
 ghost use lib.Dec.{eqb};
 ghost use lib.ListN.{length};
 ghost use Rattle.transfer.specs.Transfers.{Sound};
-ghost use Rattle.transfer.specs.FD.{notReceivingHere, repeats, wrongSize, wrongCrc, stateFD, answerFD, writtenAt, areaFD};
+ghost use Rattle.frames.specs.Places.{writtenAt};
+ghost use Rattle.transfer.specs.FD.{notReceivingHere, repeats, wrongSize, wrongCrc, stateFD, answerFD, areaFD};
 
 impl Transfer {
     // `packet` is the frame's data behind the fields.

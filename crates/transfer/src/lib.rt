@@ -14,6 +14,3 @@ mod fe;
 pub mod identity;
 pub mod phase;
 pub mod state;
-
-// The least packet size: with it the largest image fits into 65,536 packets.
-pub const MIN_PACKET: usize = 16;

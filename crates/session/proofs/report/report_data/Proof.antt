@@ -6,7 +6,7 @@ use Prim.Native.Nat.{ℕ, _+_, _*_, _≤_, _-_}
 use native.Mathlib.Omega.{arith}
 use Rattle.frames.specs.Finished.{padded}
 use Rattle.transfer.specs.declared.board.Board.{Board}
-use Rattle.transfer.specs.FD.{writtenAt}
+use Rattle.frames.specs.Places.{writtenAt}
 use Rattle.session.specs.Report.{boardBytes, boardsBytes, maxReport, reportBytes}
 use Rattle.session.proofs.Reports.{soFar, soFar-none, soFar-next, soFar-all}
 use Rattle.session.proofs.report.report_data.Statement.{statement}

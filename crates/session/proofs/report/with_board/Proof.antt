@@ -4,8 +4,8 @@ use mathlib.Core.Path.{_≡_, ap, _∙_}
 use Prim.Native.Nat.{_-_}
 use native.Mathlib.Omega.{arith}
 use lib.ListN.{length}
-use Rattle.transfer.specs.FD.{writtenAt}
-use Rattle.transfer.proofs.Packets.{part-written}
+use Rattle.frames.specs.Places.{writtenAt}
+use Rattle.frames.proofs.Places.{part-written}
 use Rattle.session.proofs.report.with_board.Statement.{statement}
 use Rattle.session.proofs.report.with_board.Tie as tie
 

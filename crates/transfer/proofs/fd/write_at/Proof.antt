@@ -1,7 +1,7 @@
 -- `transfer::fd::write_at` meets its contract. Assumes nothing.
 use borrow.Author.Needs.{needs}
 use mathlib.Core.Path.{refl}
-use Rattle.transfer.proofs.Packets.{part-written}
+use Rattle.frames.proofs.Places.{part-written}
 use Rattle.transfer.proofs.fd.write_at.Statement.{statement}
 use Rattle.transfer.proofs.fd.write_at.Tie as tie
 

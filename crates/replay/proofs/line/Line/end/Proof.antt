@@ -1,6 +1,5 @@
 -- `replay::line::Line::end` meets its contract. Assumes nothing.
 use borrow.Author.Needs.{needs}
-use native.Mathlib.Omega.{arith}
 use Rattle.replay.proofs.Adding.{adds-both, from-empty}
 use Rattle.replay.proofs.line.Line.end.Statement.{statement}
 use Rattle.replay.proofs.line.Line.end.Tie as tie
@@ -24,7 +23,7 @@ returns : tie.Need-returns
 returns c =
     let dropped = c .before .decimal .ensures in
     let whole = adds-both (c .before .before .text .ensures) (adds-both (dropped .adds) (c .put .ensures)) in
-    (record { droppedText = dropped .text; is-dropped = dropped .is-decimal; is = from-empty (c .before .before .before .before .empty .ensures .0) whole }, omega arith)
+    record { droppedText = dropped .text; is-dropped = dropped .is-decimal; is = from-empty (c .before .before .before .before .empty .ensures .0) whole }
 
 pub end-spec : {M : Type 1} → statement M
 end-spec =

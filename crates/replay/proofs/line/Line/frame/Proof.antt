@@ -1,6 +1,5 @@
 -- `replay::line::Line::frame` meets its contract. Assumes nothing.
 use borrow.Author.Needs.{needs}
-use native.Mathlib.Omega.{arith}
 use Rattle.replay.proofs.Adding.{adds-both, from-empty}
 use Rattle.replay.proofs.line.Line.frame.Statement.{statement}
 use Rattle.replay.proofs.line.Line.frame.Tie as tie
@@ -45,16 +44,14 @@ returns c =
     let outcome = c5 .decimal2 .ensures in
     let to-the-end = adds-both (c6 .put3 .ensures) (adds-both (c7 .reply .ensures .0) (c .put4 .ensures)) in
     let from-command = adds-both (c3 .hex .ensures) (adds-both (c4 .put2 .ensures) (adds-both (outcome .adds) to-the-end)) in
-    let whole = adds-both (place .adds) (adds-both (c2 .put .ensures) from-command) in (
-      record {
-        placeText = place .text;
-        outcomeText = outcome .text;
-        is-place = place .is-decimal;
-        is-outcome = outcome .is-decimal;
-        is = from-empty (c1 .before .empty .ensures .0) whole;
-      },
-      omega arith,
-    )
+    let whole = adds-both (place .adds) (adds-both (c2 .put .ensures) from-command) in
+    record {
+      placeText = place .text;
+      outcomeText = outcome .text;
+      is-place = place .is-decimal;
+      is-outcome = outcome .is-decimal;
+      is = from-empty (c1 .before .empty .ensures .0) whole;
+    }
 
 pub frame-spec : {M : Type 1} → statement M
 frame-spec =

@@ -5,7 +5,8 @@ use mathlib.Core.List.{List}
 use Prim.Native.Nat.{ℕ, _<_, _≤_, _-_}
 use native.Mathlib.Omega.{arith}
 use lib.ListN.{length, take}
-use Rattle.replay.specs.Texts.{Adds, hexBytes}
+use Rattle.text.specs.Hex.{hexBytes}
+use Rattle.replay.specs.Texts.{Adds}
 use Rattle.replay.proofs.Adding.{adds-nothing, hex-next, hex-all, hex-count, no-reply}
 use Rattle.replay.proofs.line.Line.reply.Statement.{statement}
 use Rattle.replay.proofs.line.Line.reply.Tie as tie

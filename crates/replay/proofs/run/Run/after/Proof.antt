@@ -1,7 +1,10 @@
 -- `replay::run::Run::after` meets its contract. Assumes nothing.
 use borrow.Author.Needs.{needs}
-use mathlib.Core.Path.{refl}
 use borrow.Author.Tests.{eq-eqb, ne-eqb}
+use mathlib.Core.Path.{refl, subst}
+use mathlib.Core.List.{List}
+use Prim.Native.Nat.{ℕ}
+use Rattle.text.specs.Outputs.{TextAdded}
 use Rattle.replay.specs.Texts.{textOf}
 use Rattle.replay.proofs.run.Run.after.Statement.{statement}
 use Rattle.replay.proofs.run.Run.after.Tie as tie
@@ -31,8 +34,14 @@ returns c =
 line-of-requires : tie.Need-line-of-requires
 line-of-requires c κs = search needs
 
-add-requires : tie.Need-add-requires
-add-requires c κs = search needs
+slice-aggregate-front : tie.Need-slice-aggregate-front
+slice-aggregate-front c = search needs
+
+front-requires : tie.Need-front-requires
+front-requires c κs = search needs
+
+text-requires : tie.Need-text-requires
+text-requires c κs = search needs
 
 plus-requires-3 : tie.Need-plus-requires-3
 plus-requires-3 c κs = search needs
@@ -42,10 +51,12 @@ plus-requires-4 c κs = search needs
 
 returns-2 : tie.Need-returns-2
 returns-2 c =
-    let tested = c .before .before .before .before .before in
+    let line = c .before .before .before .before .before .before .before .line-of in
+    let tested = c .before .before .before .before .before .before .before .before in
     let dropped = tested .before .before .before in
     let place = dropped .before .plus in
-    let line = c .before .before .before .before .line-of in
+    let a = dropped .before .before .before .before .args in
+    let added = subst (λ (s : List ℕ). TextAdded (a .self .lines) s (a .output .now) (c .before .before .text .result) (c .before .before .text .last .1 .1 .0)) (c .before .before .before .before .front .ensures) (c .before .before .text .ensures) in
     record {
       keeps = refl;
       goes-on = refl;
@@ -53,7 +64,7 @@ returns-2 c =
       drops = dropped .plus2 .ensures;
       takes = dropped .before .before .wrapping-add-usize .ensures;
       ends = refl;
-      writes = record { nothing = λ e. absurd (tested .if1 .left e); line = λ _. record { text = textOf (line .result); says = line .ensures .0; adds = c .before .before .add .ensures } };
+      writes = record { nothing = λ e. absurd (tested .if1 .left e); line = λ _. record { text = textOf (line .result); says = line .ensures; adds = added } };
     }
 
 pub after-spec : {M : Type 1} → statement M
@@ -65,7 +76,9 @@ after-spec =
     plus-requires-2
     returns
     line-of-requires
-    add-requires
+    slice-aggregate-front
+    front-requires
+    text-requires
     plus-requires-3
     plus-requires-4
     returns-2)

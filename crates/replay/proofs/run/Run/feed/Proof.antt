@@ -1,22 +1,37 @@
 -- `replay::run::Run::feed` meets its contract. Assumes nothing.
 use borrow.Author.Needs.{needs}
-use mathlib.Core.Path.{refl}
+use mathlib.Core.Path.{_≡_, refl, ap, subst, _∙_}
+use mathlib.Core.List.{List}
+use Prim.Native.Nat.{ℕ}
 use native.Mathlib.Omega.{arith}
-use Rattle.replay.proofs.Turns.{passes-cut}
+use lib.ListN.{length, drop}
+use lib.Seq.{slice}
+use Rattle.controller.specs.Calls.{Leaves, fedCall}
+use Rattle.replay.specs.Runs.{freshRoom}
+use Rattle.replay.proofs.Turns.{passes, length-left}
 use Rattle.replay.proofs.run.Run.feed.Statement.{statement}
 use Rattle.replay.proofs.run.Run.feed.Tie as tie
 
-fit-requires : tie.Need-fit-requires
-fit-requires c κs = search needs
+front-requires : tie.Need-front-requires
+front-requires c κs = search needs
 
-sub-feed : tie.Need-sub-feed
-sub-feed c = search needs
+behind-requires : tie.Need-behind-requires
+behind-requires c κs = search needs
 
-part-feed-start : tie.Need-part-feed-start
-part-feed-start c = search needs
+read-requires : tie.Need-read-requires
+read-requires c κs = search needs
 
-part-feed-end : tie.Need-part-feed-end
-part-feed-end c = search needs
+same-length : tie.Need-same-length
+same-length c = search needs
+
+returns : tie.Need-returns
+returns c =
+    let begun = c .before .before .before .before .before .before in
+    let o = begun .before .before .before .before .before in
+    let a = o .args in
+    let left = begun .behind .ensures ∙ ap (drop (a .self .at)) (begun .before .front .ensures) in
+    let none = ap length left ∙ length-left (a .self .at) (a .self .end) (a .input .now) in
+    record { feeds = λ h. absurd (omega (arith, none)); reads = λ _. (c .before .before .read .ensures, (refl, refl)) }
 
 slice-aggregate-feed : tie.Need-slice-aggregate-feed
 slice-aggregate-feed c = search needs
@@ -27,48 +42,39 @@ feed-requires c κs = search needs
 after-requires : tie.Need-after-requires
 after-requires c κs = search needs
 
-same-length : tie.Need-same-length
-same-length c = search needs
-
 same-length-2 : tie.Need-same-length-2
 same-length-2 c = search needs
-
-returns : tie.Need-returns
-returns c =
-    let called = c .before .before .before .before .before .before in
-    let tested = called .before .before .before .before .before .before in
-    let end = tested .before .fit in
-    let o = tested .before .before .before .before .before in
-    record {
-      feeds = λ _. (passes-cut (end .result) (o .args .input .now) (o .args .area .now) (end .ensures .1) (called .feed .ensures) (c .after .ensures), refl);
-      reads = λ h. absurd (omega arith);
-    }
-
-read-requires : tie.Need-read-requires
-read-requires c κs = search needs
 
 same-length-3 : tie.Need-same-length-3
 same-length-3 c = search needs
 
 returns-2 : tie.Need-returns-2
 returns-2 c =
-    let tested = c .before .before .before .before .before in
-    record { feeds = λ h. absurd (omega arith); reads = λ _. (c .before .before .read .ensures, (refl, refl)) }
+    let called = c .before .before .before .before .before .before in
+    let begun = called .before .before .before .before .before in
+    let o = begun .before .before .before .before .before in
+    let a = o .args in
+    let left = begun .behind .ensures ∙ ap (drop (a .self .at)) (begun .before .front .ensures) in
+    let some = ap length left ∙ length-left (a .self .at) (a .self .end) (a .input .now) in
+    let fed : List ℕ → Type 0 =
+    λ s. Leaves (fedCall s (a .self .record) freshRoom (a .area .now)) (called .feed .result) (called .feed .last .1 .1 .0) (called .feed .last .1 .1 .1 .0) in
+    record {
+      feeds = λ _. (passes (subst fed left (called .feed .ensures)) (c .after .ensures), refl);
+      reads = λ h. absurd (called .before .before .before .before .if1 .left (omega (arith, some)));
+    }
 
 pub feed-spec : {M : Type 1} → statement M
 feed-spec =
     tie.close
     (tie.spec
-    fit-requires
-    sub-feed
-    part-feed-start
-    part-feed-end
+    front-requires
+    behind-requires
+    read-requires
+    same-length
+    returns
     slice-aggregate-feed
     feed-requires
     after-requires
-    same-length
     same-length-2
-    returns
-    read-requires
     same-length-3
     returns-2)

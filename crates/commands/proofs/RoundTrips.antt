@@ -1,0 +1,267 @@
+-- Reading what was built gives the fields back. Assumes nothing.
+use mathlib.Core.Path.{_≡_, refl, sym, ap, ap₂, _∙_}
+use mathlib.Core.Bool.{Bool, true, false, cond, _&&_, _||_}
+use mathlib.Core.List.{List, [], _++_, append-assoc}
+use Prim.Native.Nat.{ℕ, _+_, _*_, _-_, _/_, _%_, _≤_, _<_}
+use native.Mathlib.Nat.{div-add-mod', div-div-eq-div-mul, mod-eq-of-lt}
+use native.Mathlib.Omega.{arith}
+use borrow.Author.Tests.{eq-eqb, le-ltb}
+use lib.Dec.{ltb}
+use lib.ListN.{length, getD, take, drop, length-append}
+use lib.Seq.{take-at, drop-at, drop-drop, getD-drop, take-append-seam}
+use Rattle.frames.specs.Frame.{maxData, number16, encode}
+use Rattle.frames.specs.Numbers.{number32, bytes32}
+use Rattle.frames.specs.Finished.{zeros, padded, finished}
+use Rattle.frames.specs.Buffer.{dataAt, aloneAt, versionAt, commandAt}
+use Rattle.frames.proofs.FinishedFrames.{finished-version, finished-command, finished-length, finished-bytes}
+use Rattle.frames.proofs.OneFrames.{version-encoded, command-encoded, data-encoded, alone-encoded}
+use Rattle.commands.specs.declared.table.Header.the-variants.{Wrong, Right}
+use Rattle.commands.specs.declared.request.RequestFA.{RequestFA}
+use Rattle.commands.specs.declared.request.RequestFB.{RequestFB}
+use Rattle.commands.specs.declared.request.RequestFC.{RequestFC}
+use Rattle.commands.specs.declared.request.RequestFD.{RequestFD}
+use Rattle.commands.specs.Search.{find}
+use Rattle.commands.specs.Limits.{maxPacket}
+use Rattle.commands.specs.Table.{table, rowAt, placeOf, headerOf}
+use Rattle.commands.specs.Requests.{channelOf, number32At, fieldAt, requestFA, requestFB, requestFC, requestFD, packetOf}
+use Rattle.commands.specs.RequestFrames.{byte, dataFA, namedFB, dataFB, dataFC, dataFD, dataFE, requestFrame}
+use Rattle.commands.specs.Replies.{maxReply, replyFA, replyFB, replyFC, replyState, replyFrame}
+use Rattle.commands.specs.ReplyFields.{isReply, fieldsFA, fieldsFB, fieldsFC, fieldsState}
+use Rattle.commands.specs.RoundTrips.{max16, max32, FitsFB, FitsFD, sent, headerIn, RequestsReadBack, replyBytes, RepliesReadBack}
+use Rattle.commands.proofs.ReplyFrames.{frame, reply-frames}
+
+-- ---- numbers
+
+pub of-bytes16 : (x : ℕ) → x < max16 → number16 (x / 256 % 256) (x % 256) ≡ x
+of-bytes16 x h = omega arith
+
+-- a number, its quotients by 256 and their remainders
+joined : (x q r s a b c : ℕ) → q * 256 + a ≡ x → r * 256 + b ≡ q → s * 256 + c ≡ r → number32 s c b a ≡ x
+joined x q r s a b c e1 e2 e3 = omega arith
+
+pub of-bytes32 : (x : ℕ) → x < max32 → number32 (x / 16777216 % 256) (x / 65536 % 256) (x / 256 % 256) (x % 256) ≡ x
+of-bytes32 x h =
+    let small : x / 16777216 < 256 = omega arith in
+    ap (λ (s : ℕ). number32 s (x / 65536 % 256) (x / 256 % 256) (x % 256)) (mod-eq-of-lt small)
+    ∙ joined x (x / 256) (x / 65536) (x / 16777216) (x % 256) (x / 256 % 256) (x / 65536 % 256) (div-add-mod' x 256)
+    (ap (λ (q : ℕ). q * 256 + x / 256 % 256) (sym (div-div-eq-div-mul x 256 256)) ∙ div-add-mod' (x / 256) 256)
+    (ap (λ (q : ℕ). q * 256 + x / 65536 % 256) (sym (div-div-eq-div-mul x 65536 256)) ∙ div-add-mod' (x / 65536) 256)
+
+-- ---- fields in their places
+
+-- what stands from `at` on begins with a; behind it stands r
+drop-next : (d a r : List ℕ) (at n : ℕ) → drop at d ≡ a ++ r → length a ≡ n → drop (at + n) d ≡ r
+drop-next d a r at n e size = sym (drop-drop n at d) ∙ ap (drop n) e ∙ drop-at a r n size
+
+field-there : (d a r : List ℕ) (at n : ℕ) → drop at d ≡ a ++ r → length a ≡ n → fieldAt at n d ≡ a
+field-there d a r at n e size = ap (take n) e ∙ take-at a r n size
+
+byte-there : (d r : List ℕ) (at i : ℕ) → drop at d ≡ r → getD d (at + i) 0 ≡ getD r i 0
+byte-there d r at i e = sym (getD-drop at d i 0) ∙ ap (λ (l : List ℕ). getD l i 0) e
+
+number32-there : (d r : List ℕ) (at x : ℕ) → drop at d ≡ bytes32 x ++ r → x < max32
+    → number32 (getD d (at + 0) 0) (getD d (at + 1) 0) (getD d (at + 2) 0) (getD d (at + 3) 0) ≡ x
+number32-there d r at x e small =
+    ap₂ (λ (a b : ℕ). number32 a b (getD d (at + 2) 0) (getD d (at + 3) 0)) (byte-there d _ at 0 e) (byte-there d _ at 1 e)
+    ∙ ap₂ (number32 (x / 16777216 % 256) (x / 65536 % 256)) (byte-there d _ at 2 e) (byte-there d _ at 3 e)
+    ∙ of-bytes32 x small
+
+-- ---- requests
+
+-- the bytes that the controller's reader hands on
+sent-bytes : (command : ℕ) (d : List ℕ) → sent command d .bytes ≡ padded maxData d
+unfolding requestFrame
+sent-bytes command d = finished-bytes (requestFrame command d)
+
+sent-length : (command : ℕ) (d : List ℕ) → sent command d .length ≡ length d
+unfolding requestFrame
+sent-length command d = finished-length (requestFrame command d)
+
+fa-back : (r : RequestFA) → r .len1 < max16 → requestFA (sent 0xFA (dataFA r) .bytes) ≡ r
+unfolding requestFA dataFA
+fa-back r h = ap requestFA (sent-bytes 0xFA (dataFA r)) ∙ ap (λ (n : ℕ). record { channel = r .channel; len1 = n }) (of-bytes16 (r .len1) h)
+
+fc-back : (r : RequestFC) → r .offset < max32 → requestFC (sent 0xFC (dataFC r) .bytes) ≡ r
+unfolding requestFC dataFC
+fc-back r h = ap requestFC (sent-bytes 0xFC (dataFC r)) ∙ ap (λ (n : ℕ). record { channel = r .channel; offset = n }) (of-bytes32 (r .offset) h)
+
+fd-back : (r : RequestFD) (p : List ℕ) → FitsFD r → requestFD (sent 0xFD (dataFD r p) .bytes) ≡ r
+unfolding requestFD dataFD
+fd-back r p fits =
+    ap requestFD (sent-bytes 0xFD (dataFD r p))
+    ∙ ap (λ (n : ℕ). record { channel = r .channel; number = n; size = number16 (r .size / 256 % 256) (r .size % 256); crc = number16 (r .crc / 256 % 256) (r .crc % 256) }) (of-bytes16 (r .number) (fits .number))
+    ∙ ap₂ (λ (s c : ℕ). record { channel = r .channel; number = r .number; size = s; crc = c }) (of-bytes16 (r .size) (fits .size)) (of-bytes16 (r .crc) (fits .crc))
+
+packet-back : (r : RequestFD) (p : List ℕ) → length p ≤ maxPacket → packetOf (sent 0xFD (dataFD r p) .length) (sent 0xFD (dataFD r p) .bytes) ≡ p
+unfolding packetOf dataFD
+packet-back r p small =
+    let n : length (dataFD r p) - 7 ≡ length p = omega arith in
+    let least : ltb (length (dataFD r p)) 7 ≡ false = le-ltb (length (dataFD r p)) 7 (omega arith) in
+    let most : ltb maxData (length (dataFD r p)) ≡ false = le-ltb maxData (length (dataFD r p)) (omega arith) in
+    ap₂ packetOf (sent-length 0xFD (dataFD r p)) (sent-bytes 0xFD (dataFD r p))
+    ∙ ap₂ (λ (a b : Bool). cond (a || b) [] (fieldAt 7 (length (dataFD r p) - 7) (padded maxData (dataFD r p)))) least most
+    ∙ ap (λ (k : ℕ). take k (drop 7 (padded maxData (dataFD r p)))) n
+    ∙ take-append-seam p (zeros (maxData - length (dataFD r p)))
+
+fe-back : (channel : ℕ) → channelOf (sent 0xFE (dataFE channel) .bytes) ≡ channel
+unfolding dataFE
+fe-back channel = ap channelOf (sent-bytes 0xFE (dataFE channel))
+
+module _ (r : RequestFB) (fits : FitsFB r) where
+  abbrev d : List ℕ
+  d = padded maxData (dataFB r)
+
+  abbrev behind : List ℕ
+  behind = zeros (maxData - length (dataFB r))
+
+  pub size-fb : length (dataFB r) ≡ 36
+  unfolding dataFB
+  size-fb =
+      omega (
+        arith,
+        fits .pid,
+        fits .version,
+        fits .md5,
+        length-append (byte (r .channel)) (r .pid),
+        length-append (byte (r .channel) ++ r .pid) (r .version),
+        length-append ((byte (r .channel) ++ r .pid) ++ r .version) (r .md5),
+        length-append (namedFB r) (bytes32 (r .length)),
+        length-append (namedFB r ++ bytes32 (r .length)) (bytes32 (r .crc)),
+      )
+
+  from1 : drop 1 d ≡ r .pid ++ (r .version ++ (r .md5 ++ (bytes32 (r .length) ++ (bytes32 (r .crc) ++ behind))))
+  unfolding dataFB
+  from1 =
+      let last = bytes32 (r .crc) ++ behind in
+      append-assoc (((r .pid ++ r .version) ++ r .md5) ++ bytes32 (r .length)) (bytes32 (r .crc)) behind
+      ∙ append-assoc ((r .pid ++ r .version) ++ r .md5) (bytes32 (r .length)) last
+      ∙ append-assoc (r .pid ++ r .version) (r .md5) (bytes32 (r .length) ++ last)
+      ∙ append-assoc (r .pid) (r .version) (r .md5 ++ (bytes32 (r .length) ++ last))
+
+  from9 : drop 9 d ≡ r .version ++ (r .md5 ++ (bytes32 (r .length) ++ (bytes32 (r .crc) ++ behind)))
+  from9 = drop-next d (r .pid) _ 1 8 from1 (fits .pid)
+
+  from12 : drop 12 d ≡ r .md5 ++ (bytes32 (r .length) ++ (bytes32 (r .crc) ++ behind))
+  from12 = drop-next d (r .version) _ 9 3 from9 (fits .version)
+
+  from28 : drop 28 d ≡ bytes32 (r .length) ++ (bytes32 (r .crc) ++ behind)
+  from28 = drop-next d (r .md5) _ 12 16 from12 (fits .md5)
+
+  from32 : drop 32 d ≡ bytes32 (r .crc) ++ behind
+  from32 = drop-next d (bytes32 (r .length)) _ 28 4 from28 refl
+
+  first : channelOf d ≡ r .channel
+  unfolding dataFB
+  first = refl
+
+  fb-back : requestFB (sent 0xFB (dataFB r) .bytes) ≡ r
+  unfolding requestFB
+  fb-back =
+      let pid = field-there d (r .pid) _ 1 8 from1 (fits .pid) in
+      let version = field-there d (r .version) _ 9 3 from9 (fits .version) in
+      let md5 = field-there d (r .md5) _ 12 16 from12 (fits .md5) in
+      let size = number32-there d _ 28 (r .length) from28 (fits .size) in
+      let crc = number32-there d _ 32 (r .crc) from32 (fits .crc) in
+      ap requestFB (sent-bytes 0xFB (dataFB r))
+      ∙ ap₂ (λ (p v : List ℕ). record { channel = channelOf d; pid = p; version = v; md5 = fieldAt 12 16 d; length = number32At 28 d; crc = number32At 32 d }) pid version
+      ∙ ap₂ (λ (m : List ℕ) (n : ℕ). record { channel = channelOf d; pid = r .pid; version = r .version; md5 = m; length = n; crc = number32At 32 d }) md5 size
+      ∙ ap₂ (λ (c n : ℕ). record { channel = c; pid = r .pid; version = r .version; md5 = r .md5; length = r .length; crc = n }) first crc
+
+-- ---- the table's version byte and L
+
+header-sent : (command : ℕ) (d : List ℕ) → headerIn (sent command d) ≡ headerOf (rowAt (placeOf command) .version) command (length d)
+unfolding requestFrame
+header-sent command d =
+    let f = requestFrame command d in
+    ap₂ (λ (v c : ℕ). headerOf v c (finished f .length)) (finished-version f) (finished-command f)
+    ∙ ap (headerOf (rowAt (placeOf command) .version) command) (finished-length f)
+
+fd-header : (r : RequestFD) (p : List ℕ) → length p ≤ maxPacket → headerOf 0x10 0xFD (length (dataFD r p)) ≡ Right
+unfolding headerOf placeOf rowAt table find dataFD
+fd-header r p small =
+    let least : ltb (length (dataFD r p)) 7 ≡ false = le-ltb (length (dataFD r p)) 7 (omega arith) in
+    let most : ltb maxData (length (dataFD r p)) ≡ false = le-ltb maxData (length (dataFD r p)) (omega arith) in
+    ap₂ (λ (a b : Bool). cond (a || b) Wrong Right) least most
+
+pub requests-read-back : RequestsReadBack
+unfolding headerOf placeOf rowAt table find dataFA dataFC dataFE
+requests-read-back =
+    record {
+      fa = fa-back;
+      fb = fb-back;
+      fc = fc-back;
+      fd = fd-back;
+      packet = packet-back;
+      fe = fe-back;
+      fa-header = λ r. header-sent 0xFA (dataFA r);
+      fb-header = λ r fits. header-sent 0xFB (dataFB r) ∙ ap (headerOf 0x10 0xFB) (size-fb r fits);
+      fc-header = λ r. header-sent 0xFC (dataFC r);
+      fd-header = λ r p small. header-sent 0xFD (dataFD r p) ∙ fd-header r p small;
+      fe-header = λ channel. header-sent 0xFE (dataFE channel);
+    }
+
+-- ---- replies
+
+module _ (command version : ℕ) (d : List ℕ) (is : replyFrame command (padded maxReply d) ≡ frame version command d) (small : length d ≤ maxData) where
+  bytes-are : replyBytes command d ≡ encode (frame version command d)
+  bytes-are = ap encode is
+
+  reply-data : dataAt (replyBytes command d) ≡ d
+  reply-data = ap dataAt bytes-are ∙ data-encoded (frame version command d) small
+
+  reply-is : rowAt (placeOf command) .«reply_version» ≡ version → rowAt (placeOf command) .«reply_length» ≡ length d → isReply command (replyBytes command d) ≡ true
+  unfolding isReply
+  reply-is v n =
+      let f = frame version command d in
+      let alone = ap aloneAt bytes-are ∙ alone-encoded f small in
+      let own = ap commandAt bytes-are ∙ command-encoded f small in
+      let versioned = ap versionAt bytes-are ∙ version-encoded f small in
+      ap₂ _&&_ alone
+      (ap₂ _&&_ (eq-eqb _ _ own)
+      (ap₂ _&&_ (eq-eqb _ _ (versioned ∙ sym v)) (eq-eqb _ _ (ap length reply-data ∙ sym n))))
+
+pub replies-read-back : RepliesReadBack
+unfolding placeOf rowAt table find replyFA replyFB replyFC replyState fieldsFA fieldsFB fieldsFC fieldsState
+replies-read-back =
+    record {
+      fa = λ channel flag version. ap fieldsFA (reply-data 0xFA 0x00 (replyFA channel flag version) (reply-frames .fa channel flag version) (omega arith));
+      fb = λ channel state stored crc s c.
+          ap fieldsFB (reply-data 0xFB 0x10 (replyFB channel state stored crc) (reply-frames .fb channel state stored crc) (omega arith))
+          ∙ ap₂ (λ (n m : ℕ). record { channel = channel; state = state; stored = n; crc = m }) (of-bytes32 stored s) (of-bytes32 crc c);
+      fc = λ channel offset o.
+          ap fieldsFC (reply-data 0xFC 0x00 (replyFC channel offset) (reply-frames .fc channel offset) (omega arith))
+          ∙ ap (λ (n : ℕ). record { channel = channel; offset = n }) (of-bytes32 offset o);
+      fd = λ channel state. ap fieldsState (reply-data 0xFD 0x00 (replyState channel state) (reply-frames .fd channel state) (omega arith));
+      fe = λ channel state. ap fieldsState (reply-data 0xFE 0x00 (replyState channel state) (reply-frames .fe channel state) (omega arith));
+      fa-reply = λ channel flag version. reply-is 0xFA 0x00 (replyFA channel flag version) (reply-frames .fa channel flag version) (omega arith) refl refl;
+      fb-reply = λ channel state stored crc. reply-is 0xFB 0x10 (replyFB channel state stored crc) (reply-frames .fb channel state stored crc) (omega arith) refl refl;
+      fc-reply = λ channel offset. reply-is 0xFC 0x00 (replyFC channel offset) (reply-frames .fc channel offset) (omega arith) refl refl;
+      fd-reply = λ channel state. reply-is 0xFD 0x00 (replyState channel state) (reply-frames .fd channel state) (omega arith) refl refl;
+      fe-reply = λ channel state. reply-is 0xFE 0x00 (replyState channel state) (reply-frames .fe channel state) (omega arith) refl refl;
+    }
+
+-- ---- sizes and commands
+
+pub request-payload : (command : ℕ) (d : List ℕ) → requestFrame command d .payload ≡ d
+unfolding requestFrame
+request-payload command d = refl
+
+pub sent-command : (command : ℕ) (d : List ℕ) → sent command d .command ≡ command
+unfolding requestFrame
+sent-command command d = finished-command (requestFrame command d)
+
+pub size-fa : (r : RequestFA) → length (dataFA r) ≡ 3
+unfolding dataFA
+size-fa r = refl
+
+pub size-fc : (r : RequestFC) → length (dataFC r) ≡ 5
+unfolding dataFC
+size-fc r = refl
+
+pub size-fd : (r : RequestFD) (p : List ℕ) → length (dataFD r p) ≡ 7 + length p
+unfolding dataFD
+size-fd r p = omega arith
+
+pub size-fe : (channel : ℕ) → length (dataFE channel) ≡ 1
+unfolding dataFE
+size-fe channel = refl

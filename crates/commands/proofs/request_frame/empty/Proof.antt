@@ -1,0 +1,27 @@
+-- `commands::request_frame::empty` meets its contract. Assumes nothing.
+use borrow.Author.Needs.{needs}
+use mathlib.Core.Path.{ap, _∙_}
+use Rattle.frames.specs.Finished.{noData}
+use Rattle.frames.proofs.FinishedFrames.{no-data}
+use Rattle.commands.specs.declared.table.Row.{Row}
+use Rattle.commands.specs.Table.{placeOf, rowAt}
+use Rattle.commands.specs.RequestFrames.{requestFrame}
+use Rattle.commands.proofs.request_frame.empty.Statement.{statement}
+use Rattle.commands.proofs.request_frame.empty.Tie as tie
+
+row-of-requires : tie.Need-row-of-requires
+row-of-requires c κs = search needs
+
+empty-requires : tie.Need-empty-requires
+empty-requires c κs = search needs
+
+returns : tie.Need-returns
+unfolding requestFrame
+returns c =
+    let command = c .before .before .args .command in
+    c .empty .ensures
+    ∙ ap (λ (r : Row). noData (r .version) command) (c .before .row-of .ensures .is)
+    ∙ no-data (rowAt (placeOf command) .version) command
+
+pub empty-spec : {M : Type 1} → statement M
+empty-spec = tie.close (tie.spec row-of-requires empty-requires returns)

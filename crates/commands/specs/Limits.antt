@@ -1,0 +1,14 @@
+-- 01: the limits that both ends of the service share. Assumes nothing.
+use Prim.Native.Nat.{ℕ}
+
+-- FA: flag 1 "if .. Len1 is below 16"
+abbrev pub minPacket : ℕ
+minPacket = 16
+
+-- "Len2 = 512"
+abbrev pub maxPacket : ℕ
+maxPacket = 512
+
+-- "the area's length, 1 to 1,048,576"
+abbrev pub maxArea : ℕ
+maxArea = 1048576

@@ -1,0 +1,84 @@
+-- The claim: reading what was built gives the fields back, for every request and every reply. The fields are those that fit: numbers
+-- below 65,536 or 4,294,967,296 by their size, a PID of eight bytes, a version of three, an MD5 of sixteen. Assumes nothing.
+use mathlib.Core.Path.{_≡_}
+use mathlib.Core.Bool.{true}
+use mathlib.Core.List.{List}
+use Prim.Native.Nat.{ℕ, _≤_, _<_}
+use lib.ListN.{length}
+use Rattle.frames.specs.declared.finished.FinishedFrame.{FinishedFrame}
+use Rattle.frames.specs.Frame.{encode}
+use Rattle.frames.specs.Finished.{padded, finished}
+use Rattle.frames.specs.Buffer.{dataAt}
+use Rattle.commands.specs.declared.table.Header.{Header}
+use Rattle.commands.specs.declared.table.Header.the-variants.{Right}
+use Rattle.commands.specs.declared.request.RequestFA.{RequestFA}
+use Rattle.commands.specs.declared.request.RequestFB.{RequestFB}
+use Rattle.commands.specs.declared.request.RequestFC.{RequestFC}
+use Rattle.commands.specs.declared.request.RequestFD.{RequestFD}
+use Rattle.commands.specs.Limits.{maxPacket}
+use Rattle.commands.specs.Table.{headerOf}
+use Rattle.commands.specs.Requests.{channelOf, requestFA, requestFB, requestFC, requestFD, packetOf}
+use Rattle.commands.specs.RequestFrames.{dataFA, dataFB, dataFC, dataFD, dataFE, requestFrame}
+use Rattle.commands.specs.Replies.{maxReply, replyFA, replyFB, replyFC, replyState, replyFrame}
+use Rattle.commands.specs.ReplyFields.{isReply, fieldsFA, fieldsFB, fieldsFC, fieldsState}
+
+abbrev pub max16 : ℕ
+max16 = 65536
+
+abbrev pub max32 : ℕ
+max32 = 4294967296
+
+-- ---- requests
+
+pub record FitsFB (r : RequestFB) : Type 0 where
+  pub pid : length (r .pid) ≡ 8
+  pub version : length (r .version) ≡ 3
+  pub md5 : length (r .md5) ≡ 16
+  pub size : r .length < max32
+  pub crc : r .crc < max32
+
+pub record FitsFD (r : RequestFD) : Type 0 where
+  pub number : r .number < max16
+  pub size : r .size < max16
+  pub crc : r .crc < max16
+
+-- the frame of a request as the controller's reader hands it on
+abbrev pub sent : ℕ → List ℕ → FinishedFrame
+sent command d = finished (requestFrame command d)
+
+abbrev pub headerIn : FinishedFrame → Header
+headerIn f = headerOf (f .version) (f .command) (f .length)
+
+pub record RequestsReadBack : Type 0 where
+  pub fa : (r : RequestFA) → r .len1 < max16 → requestFA (sent 0xFA (dataFA r) .bytes) ≡ r
+  pub fb : (r : RequestFB) → FitsFB r → requestFB (sent 0xFB (dataFB r) .bytes) ≡ r
+  pub fc : (r : RequestFC) → r .offset < max32 → requestFC (sent 0xFC (dataFC r) .bytes) ≡ r
+  pub fd : (r : RequestFD) (p : List ℕ) → FitsFD r → requestFD (sent 0xFD (dataFD r p) .bytes) ≡ r
+  pub packet : (r : RequestFD) (p : List ℕ) → length p ≤ maxPacket → packetOf (sent 0xFD (dataFD r p) .length) (sent 0xFD (dataFD r p) .bytes) ≡ p
+  pub fe : (channel : ℕ) → channelOf (sent 0xFE (dataFE channel) .bytes) ≡ channel
+  -- version byte and L are the table's
+  pub fa-header : (r : RequestFA) → headerIn (sent 0xFA (dataFA r)) ≡ Right
+  pub fb-header : (r : RequestFB) → FitsFB r → headerIn (sent 0xFB (dataFB r)) ≡ Right
+  pub fc-header : (r : RequestFC) → headerIn (sent 0xFC (dataFC r)) ≡ Right
+  pub fd-header : (r : RequestFD) (p : List ℕ) → length p ≤ maxPacket → headerIn (sent 0xFD (dataFD r p)) ≡ Right
+  pub fe-header : (channel : ℕ) → headerIn (sent 0xFE (dataFE channel)) ≡ Right
+
+-- ---- replies
+
+-- the bytes of a reply with this data, as the controller writes them
+abbrev pub replyBytes : ℕ → List ℕ → List ℕ
+replyBytes command d = encode (replyFrame command (padded maxReply d))
+
+pub record RepliesReadBack : Type 0 where
+  pub fa : (channel flag : ℕ) (version : List ℕ) → fieldsFA (dataAt (replyBytes 0xFA (replyFA channel flag version))) ≡ record { channel = channel; flag = flag; len2 = maxPacket }
+  pub fb : (channel state stored crc : ℕ) → stored < max32 → crc < max32
+      → fieldsFB (dataAt (replyBytes 0xFB (replyFB channel state stored crc))) ≡ record { channel = channel; state = state; stored = stored; crc = crc }
+  pub fc : (channel offset : ℕ) → offset < max32 → fieldsFC (dataAt (replyBytes 0xFC (replyFC channel offset))) ≡ record { channel = channel; offset = offset }
+  pub fd : (channel state : ℕ) → fieldsState (dataAt (replyBytes 0xFD (replyState channel state))) ≡ record { channel = channel; state = state }
+  pub fe : (channel state : ℕ) → fieldsState (dataAt (replyBytes 0xFE (replyState channel state))) ≡ record { channel = channel; state = state }
+  -- they are the reply to that command
+  pub fa-reply : (channel flag : ℕ) (version : List ℕ) → isReply 0xFA (replyBytes 0xFA (replyFA channel flag version)) ≡ true
+  pub fb-reply : (channel state stored crc : ℕ) → isReply 0xFB (replyBytes 0xFB (replyFB channel state stored crc)) ≡ true
+  pub fc-reply : (channel offset : ℕ) → isReply 0xFC (replyBytes 0xFC (replyFC channel offset)) ≡ true
+  pub fd-reply : (channel state : ℕ) → isReply 0xFD (replyBytes 0xFD (replyState channel state)) ≡ true
+  pub fe-reply : (channel state : ℕ) → isReply 0xFE (replyBytes 0xFE (replyState channel state)) ≡ true

@@ -1,0 +1,3 @@
+-- The laws that the functions' own files cite.
+pub mod Digits
+pub mod Openings

@@ -1,0 +1,3 @@
+-- The definitions that the contracts of `exchange` cite.
+pub mod Ranges
+pub mod Exchanges

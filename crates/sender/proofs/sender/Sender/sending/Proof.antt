@@ -1,0 +1,48 @@
+-- `sender::sender::Sender::sending` meets its contract. Assumes nothing.
+use borrow.Author.Needs.{needs}
+use mathlib.Core.Path.{_≡_, ap, ap₂, _∙_}
+use mathlib.Core.List.{List}
+use Prim.Native.Nat.{ℕ}
+use lib.ListN.{take, drop}
+use Rattle.crc.specs.Crc.{checksum, crc16-modbus}
+use Rattle.frames.specs.Finished.{finished}
+use Rattle.commands.specs.Limits.{maxPacket}
+use Rattle.commands.specs.RequestFrames.{dataFD, requestFrame}
+use Rattle.sender.specs.Requests.{nextPacket, sendingOf}
+use Rattle.sender.proofs.Packets.{packet-whole}
+use Rattle.sender.proofs.sender.Sender.sending.Statement.{statement}
+use Rattle.sender.proofs.sender.Sender.sending.Tie as tie
+
+next-size-requires : tie.Need-next-size-requires
+next-size-requires c κs = search needs
+
+part-requires : tie.Need-part-requires
+part-requires c κs = search needs
+
+modbus-requires : tie.Need-modbus-requires
+modbus-requires c κs = search needs
+
+cast-t7 : tie.Need-cast-t7
+cast-t7 c = search needs
+
+fd-requires : tie.Need-fd-requires
+fd-requires c κs = search needs
+
+returns : tie.Need-returns
+returns c =
+    let a = c .before .before .before .before .before .args in
+    let s = a .self in
+    let image = a .image .now in
+    let size = c .before .before .before .next-size in
+    let part = c .before .before .part in
+    let crc = c .before .modbus in
+    let packet : part .result .now ≡ nextPacket s image = part .ensures ∙ ap (λ (n : ℕ). take n (drop (s .place) image)) (size .ensures) in
+    c .fd .ensures
+    ∙ ap (λ (q : List ℕ). finished (requestFrame 0xFD (dataFD (record { channel = s .channel; number = s .number; size = size .result; crc = crc .result }) (take maxPacket q)))) packet
+    ∙ ap₂ (λ (n k : ℕ). finished (requestFrame 0xFD (dataFD (record { channel = s .channel; number = s .number; size = n; crc = k }) (take maxPacket (nextPacket s image))))) (size .ensures) (crc .ensures ∙ ap (checksum crc16-modbus) packet)
+    ∙ ap (λ (q : List ℕ). finished (requestFrame 0xFD (dataFD (sendingOf s image) q))) (packet-whole s image)
+
+pub sending-spec : {M : Type 1} → statement M
+sending-spec =
+    tie.close
+    (tie.spec next-size-requires part-requires modbus-requires cast-t7 fd-requires returns)

@@ -1,0 +1,20 @@
+-- `sender::sender::Sender::wrong_fa` meets its contract. Assumes nothing.
+use borrow.Author.Needs.{needs}
+use borrow.Author.Tests.{le-ltb, lt-ltb}
+use Rattle.sender.proofs.sender.Sender.wrong_fa.Statement.{statement}
+use Rattle.sender.proofs.sender.Sender.wrong_fa.Tie as tie
+
+other-channel-requires : tie.Need-other-channel-requires
+other-channel-requires c κs = search needs
+
+returns : tie.Need-returns
+returns c = simp (← c .before .other-channel .ensures, c .if1 .taken)
+
+returns-2 : tie.Need-returns-2
+returns-2 c = simp (← c .before .before .before .other-channel .ensures, c .before .before .if1 .left, lt-ltb _ _ (c .if2 .taken))
+
+returns-3 : tie.Need-returns-3
+returns-3 c = simp (← c .before .before .before .before .other-channel .ensures, c .before .before .before .if1 .left, le-ltb _ _ (c .before .if2 .left))
+
+pub wrong-fa-spec : {M : Type 1} → statement M
+wrong-fa-spec = tie.close (tie.spec other-channel-requires returns returns-2 returns-3)

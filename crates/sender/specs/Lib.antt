@@ -1,0 +1,13 @@
+-- The definitions that the contracts of `sender` cite, in the order of docs/SENDER.md.
+pub mod Outcomes
+pub mod Phases
+pub mod Senders
+pub mod Lawful
+pub mod Opening
+pub mod Decisions
+pub mod Requests
+pub mod Replies
+pub mod Silences
+pub mod RequestRead
+pub mod Kept
+pub mod Granted
