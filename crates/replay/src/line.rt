@@ -88,7 +88,7 @@ impl Line {
         ensures { λ r. ⌜ Adds self (hexByte b) r ⌝ }
     {
         let digits = hex::byte(b);
-        self.text(&digits)
+        self.put(digits[0]).put(digits[1])
     }
 
     fn text(self, text: &[u8]) -> Line

@@ -1,25 +1,37 @@
 -- `replay::line::Line::hex` meets its contract. Assumes nothing.
 use borrow.Author.Needs.{needs}
-use mathlib.Core.Path.{subst}
-use mathlib.Core.List.{List}
+use mathlib.Core.Path.{ap, subst}
+use mathlib.Core.List.{List, [], _∷_}
 use Prim.Native.Nat.{ℕ}
+use lib.ListN.{getD}
 use Rattle.replay.specs.Texts.{Adds}
+use Rattle.replay.proofs.Adding.{adds-both}
 use Rattle.replay.proofs.line.Line.hex.Statement.{statement}
 use Rattle.replay.proofs.line.Line.hex.Tie as tie
 
 byte-requires : tie.Need-byte-requires
 byte-requires c κs = search needs
 
-slice-aggregate-text : tie.Need-slice-aggregate-text
-slice-aggregate-text c = search needs
+array-read-put : tie.Need-array-read-put
+array-read-put c = search needs
 
-text-requires : tie.Need-text-requires
-text-requires c κs = search needs
+put-requires : tie.Need-put-requires
+put-requires c κs = search needs
+
+array-read-put-2 : tie.Need-array-read-put-2
+array-read-put-2 c = search needs
+
+put-requires-2 : tie.Need-put-requires-2
+put-requires-2 c κs = search needs
 
 returns : tie.Need-returns
 returns c =
-    let a = c .before .before .before .args in
-    subst (λ (t : List ℕ). Adds (a .self) t (c .text .result)) (c .before .before .byte .ensures) (c .text .ensures)
+    let digits = c .before .before .byte in
+    let o = c .before .before .before in
+    subst (λ (t : List ℕ). Adds (o .args .self) t (c .put2 .result)) (ap (λ (d : List ℕ). getD d 0 0 ∷ getD d 1 0 ∷ []) (digits .ensures))
+    (adds-both (c .before .put .ensures) (c .put2 .ensures))
 
 pub hex-spec : {M : Type 1} → statement M
-hex-spec = tie.close (tie.spec byte-requires slice-aggregate-text text-requires returns)
+hex-spec =
+    tie.close
+    (tie.spec byte-requires array-read-put put-requires array-read-put-2 put-requires-2 returns)
