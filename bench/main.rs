@@ -1,11 +1,12 @@
 //! bench REPLAY MODEL FOLDER: times the replay program and the model on the same
-//! captures, and the compiled CRC-32 against two others. Medians of interleaved
-//! runs, and their ratios.
+//! captures, feeding calls by themselves on the same bytes, and the compiled
+//! CRC-32 against two others. Medians of interleaved runs, and their ratios.
 
 #[path = "../tests/model/crc.rs"]
 #[allow(dead_code)]
 mod crc;
 
+use std::cell::RefCell;
 use std::fs::File;
 use std::hint::black_box;
 use std::io;
@@ -17,10 +18,21 @@ const RUNS: usize = 15;
 const SOUND: usize = 64 << 20;
 const FRAMES: usize = 2000;
 const DATA: usize = 512;
+/// A header that claims 519 data bytes, and two of them in eight bytes.
+const HEADER: [u8; 6] = [0x55, 0xAA, 0, 0, 2, 7];
+const TWO_HEADERS: [u8; 8] = [0x55, 0xAA, 0x55, 0xAA, 2, 7, 2, 7];
+const MIB: usize = 1 << 20;
+const ROOM: usize = 33;
+const AREA: usize = 65_536;
 
 #[link(name = "crc32", kind = "static")]
 extern "C" {
     fn checksum(bytes: *const u8, count: usize) -> u32;
+}
+
+#[link(name = "controller", kind = "static")]
+extern "C" {
+    fn feed_record(bytes: *const u8, count: usize, cut: usize, room: *mut u8, size: usize, area: *mut u8, length: usize) -> usize;
 }
 
 #[cfg(zlib)]
@@ -39,11 +51,12 @@ fn main() -> io::Result<()> {
     };
     let folder = Path::new(folder);
     println!("Medians of {RUNS} runs each, interleaved. The first row of each group is 1.00.");
-    println!("Replay and CRC-32: built by `rt check` and `rt staticlib`. Model: `rustc -O`, no other flag.");
+    println!("Replay, feeding calls and CRC-32: built by `rt check` and `rt staticlib`. Model: `rustc -O`, no other flag.");
     println!("Each replay is a process of its own and clears its buffers (area, input, output) at its start.\n");
     println!("| what | median ms | ratio |\n|---|---|---|");
     sound(replay, model, folder)?;
     sums(replay, model, folder)?;
+    feeding()?;
     checksums()
 }
 
@@ -51,9 +64,10 @@ fn sound(replay: &str, model: &str, folder: &Path) -> io::Result<()> {
     let capture = folder.join("sound");
     let size = SOUND.to_string();
     let made = Command::new(model).args(["sound", &size]).stdout(File::create(&capture)?).status()?;
-    if !made.success() || output(&[replay], &capture)? != output(&[model, "replay"], &capture)? {
-        return Err(io::Error::other("the replays of the sound capture differ"));
+    if !made.success() {
+        return Err(io::Error::other("no sound capture"));
     }
+    same(replay, model, &capture)?;
     table(&[
         ("sound capture of 64 MiB: model", run(vec![model, "replay"], capture.clone())),
         ("sound capture of 64 MiB: replay", run(vec![replay], capture.clone())),
@@ -61,18 +75,59 @@ fn sound(replay: &str, model: &str, folder: &Path) -> io::Result<()> {
 }
 
 /// Frames of zero bytes with right sums, and with sums one too high: after each
-/// of the latter every byte of the frame is looked at as a front.
+/// of the latter every byte of the frame may begin another. And headers alone,
+/// each of which asks for a sum of its own.
 fn sums(replay: &str, model: &str, folder: &Path) -> io::Result<()> {
-    let right = folder.join("right");
-    let high = folder.join("high");
-    std::fs::write(&right, frame(0).repeat(FRAMES))?;
-    std::fs::write(&high, frame(1).repeat(FRAMES))?;
+    let capture = |name: &str, bytes: Vec<u8>| -> io::Result<PathBuf> {
+        let path = folder.join(name);
+        std::fs::write(&path, bytes)?;
+        same(replay, model, &path)?;
+        Ok(path)
+    };
+    let right = capture("right", frame(0).repeat(FRAMES))?;
+    let high = capture("high", frame(1).repeat(FRAMES))?;
+    let short = capture("short", repeated(&HEADER, MIB))?;
+    let long = capture("long", repeated(&HEADER, 4 * MIB))?;
     table(&[
         ("2,000 frames of 512 zeros, right sums: replay", run(vec![replay], right.clone())),
         ("2,000 frames of 512 zeros, sums one too high: replay", run(vec![replay], high.clone())),
         ("2,000 frames of 512 zeros, right sums: model", run(vec![model, "replay"], right.clone())),
         ("2,000 frames of 512 zeros, sums one too high: model", run(vec![model, "replay"], high.clone())),
+    ])?;
+    table(&[
+        ("headers that claim 519 bytes, 1 MiB: replay", run(vec![replay], short.clone())),
+        ("headers that claim 519 bytes, 4 MiB: replay", run(vec![replay], long.clone())),
+        ("headers that claim 519 bytes, 1 MiB: model", run(vec![model, "replay"], short.clone())),
+        ("headers that claim 519 bytes, 4 MiB: model", run(vec![model, "replay"], long.clone())),
     ])
+}
+
+/// Feeding calls on a record, each offered all bytes that are left, or one.
+fn feeding() -> io::Result<()> {
+    let right = frame(0).repeat(FRAMES);
+    let high = frame(1).repeat(FRAMES);
+    let zeros = vec![0; MIB];
+    let short = repeated(&HEADER, MIB);
+    let long = repeated(&HEADER, 4 * MIB);
+    let dense = repeated(&TWO_HEADERS, MIB);
+    let denser = repeated(&TWO_HEADERS, 4 * MIB);
+    let heads = repeated(&HEADER[..2], MIB);
+    table(&[
+        ("feeding calls: 2,000 frames, right sums", fed(&right, usize::MAX, FRAMES)),
+        ("feeding calls: 2,000 frames, sums one too high", fed(&high, usize::MAX, 0)),
+        ("feeding calls: zeros, 1 MiB", fed(&zeros, usize::MAX, 0)),
+        ("feeding calls: 55 AA alone, 1 MiB", fed(&heads, usize::MAX, 0)),
+        ("feeding calls: headers that claim 519 bytes, 1 MiB", fed(&short, usize::MAX, 0)),
+        ("feeding calls: headers that claim 519 bytes, 4 MiB", fed(&long, usize::MAX, 0)),
+        ("feeding calls: headers every four bytes, 1 MiB", fed(&dense, usize::MAX, 0)),
+        ("feeding calls: headers every four bytes, 4 MiB", fed(&denser, usize::MAX, 0)),
+    ])?;
+    table(&[
+        ("a byte to each call: 2,000 frames, right sums", fed(&right, 1, FRAMES)),
+        ("a byte to each call: 2,000 frames, sums one too high", fed(&high, 1, 0)),
+        ("a byte to each call: headers that claim 519 bytes, 1 MiB", fed(&short, 1, 0)),
+    ])?;
+    Ok(())
 }
 
 fn checksums() -> io::Result<()> {
@@ -96,11 +151,25 @@ fn checksums() -> io::Result<()> {
 }
 
 fn frame(above: u8) -> Vec<u8> {
-    let mut frame = vec![0x55, 0xAA, 0x10, 0xFD, (DATA >> 8) as u8, (DATA & 255) as u8];
+    let mut frame = vec![0x55, 0xAA, 0, 0, (DATA >> 8) as u8, (DATA & 255) as u8];
     frame.resize(6 + DATA, 0);
     let sum = frame.iter().fold(above, |sum, &byte| sum.wrapping_add(byte));
     frame.push(sum);
     frame
+}
+
+fn repeated(pattern: &[u8], size: usize) -> Vec<u8> {
+    pattern.iter().copied().cycle().take(size).collect()
+}
+
+/// All of the bytes, at most `cut` of them offered to a call; this many frames are found.
+fn fed<'a>(bytes: &'a [u8], cut: usize, frames: usize) -> Run<'a> {
+    let memory = RefCell::new((vec![0; ROOM], vec![0; AREA]));
+    Box::new(move || {
+        let (room, area) = &mut *memory.borrow_mut();
+        let found = unsafe { feed_record(bytes.as_ptr(), bytes.len(), cut, room.as_mut_ptr(), ROOM, area.as_mut_ptr(), AREA) };
+        if found == frames { Ok(()) } else { Err(io::Error::other("feeding found other frames")) }
+    })
 }
 
 fn computed<'a>(checksum: impl Fn() -> u32 + 'a) -> Run<'a> {
@@ -116,6 +185,13 @@ fn run<'a>(words: Vec<&'a str>, capture: PathBuf) -> Run<'a> {
         let status = Command::new(words[0]).args(&words[1..]).stdin(source).stdout(Stdio::null()).status()?;
         if status.success() { Ok(()) } else { Err(io::Error::other("a replay failed")) }
     })
+}
+
+fn same(replay: &str, model: &str, capture: &Path) -> io::Result<()> {
+    if output(&[replay], capture)? == output(&[model, "replay"], capture)? {
+        return Ok(());
+    }
+    Err(io::Error::other(format!("the replays of {} differ", capture.display())))
 }
 
 fn output(words: &[&str], capture: &Path) -> io::Result<Vec<u8>> {

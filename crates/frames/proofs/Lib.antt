@@ -20,6 +20,7 @@ pub mod Readings
 mod Waits
 mod Turns
 mod Positions
+mod Stretches
 mod Steps
 pub mod Calls
 pub mod FedAlone

@@ -4,11 +4,11 @@ use mathlib.Core.Path.{_≡_}
 use mathlib.Core.Bool.{true, cond}
 use mathlib.Core.List.{List, _++_}
 use Prim.Native.Nat.{ℕ, _+_, _-_, _≤_, _<_}
-use lib.ListN.{length}
+use lib.ListN.{length, getD}
 use lib.Seq.{slice}
 use Rattle.frames.specs.declared.front.Front.the-variants.{Whole, Open}
 use Rattle.frames.specs.declared.scan.Scan.{Scan}
-use Rattle.frames.specs.Frame.{maxFrame}
+use Rattle.frames.specs.Frame.{head1, head2, maxFrame}
 use Rattle.frames.specs.Fronts.{frontOf}
 use Rattle.frames.specs.LiveReading.{CallResult, withFrame, withoutFrame}
 
@@ -40,3 +40,17 @@ pub record Scanned (result : CallResult) (a b : List ℕ) (s : Scan) : Type 0 wh
 pub record Missing (v : List ℕ) (from to more : ℕ) : Type 0 where
   pub some : 0 < more
   pub undecided : (t : ℕ) → to ≤ t → t < to + more → t ≤ length v → frontOf (slice from t v) ≡ Open
+
+-- By those of its first two bytes that stand below `to`, no frame begins at place i of v.
+abbrev pub Stray : List ℕ → ℕ → ℕ → Type 0
+Stray v to i = getD v i 0 ≡ head1 → (i + 1 < to) × (getD v (i + 1) 0 ≡ head2 → ⊥)
+
+-- The places from `from` up to r, which is at most `to`. What stands at r is left open: only time depends on it.
+pub record Headless (v : List ℕ) (from to r : ℕ) : Type 0 where
+  pub ordered : from ≤ r
+  pub within : r ≤ to
+  pub none : (i : ℕ) → from ≤ i → i < r → Stray v to i
+
+-- the places that are searched together
+abbrev pub blockSize : ℕ
+blockSize = 64

@@ -19,6 +19,7 @@ pub mod number;
 mod parts;
 pub mod reader;
 mod scan;
+mod search;
 mod sum;
 pub mod writer;
 

@@ -64,3 +64,10 @@ pub(crate) fn clip(i: usize, n: usize) -> usize
 {
     if i < n { i } else { n }
 }
+
+// The larger of i and n.
+pub(crate) fn larger(i: usize, n: usize) -> usize
+    ensures { λ r. ⌜ r ≡ n + (i - n) ⌝ }
+{
+    if i < n { n } else { i }
+}

@@ -4,6 +4,9 @@ use crate::front::Front;
 use crate::look::front_at;
 use crate::look::missing;
 use crate::parts::clip;
+use crate::parts::larger;
+use crate::search::next_head;
+use crate::search::next_head_of;
 ghost use Prim.Native.Nat.{_≤_};
 ghost use mathlib.Core.List.{[]};
 ghost use lib.ListN.{length};
@@ -18,7 +21,8 @@ pub struct Scan {
     pub found: bool,
 }
 
-// A feeding call: a dead front loses its first byte, an open one takes new bytes up to its next test.
+// A feeding call: a dead front loses its first byte and all those behind it at which no frame begins, held or new; an open one takes new
+// bytes up to its next test.
 pub(crate) fn feeding(a: &[u8], b: &[u8]) -> Scan
     requires { ⌜ length (now a) ≤ maxFrame ⌝ }
     ensures { λ r. ⌜ Scanned (feedingCall (now (b .entry)) (now (a .entry)) 0 0) (now (a .entry)) (now (b .entry)) r ⌝ }
@@ -38,7 +42,8 @@ pub(crate) fn feeding(a: &[u8], b: &[u8]) -> Scan
                 };
             }
             Front::Dead => {
-                from += 1;
+                from = next_head_of(a, b, from + 1);
+                to = larger(from, to);
             }
             Front::Open => {
                 if to == all {
@@ -54,7 +59,7 @@ pub(crate) fn feeding(a: &[u8], b: &[u8]) -> Scan
     }
 }
 
-// A quiet call: any front that is not whole loses its first byte.
+// A quiet call: any front that is not whole loses its first byte and all those behind it at which no frame begins.
 pub(crate) fn quiet(a: &[u8]) -> Scan
     requires { ⌜ length (now a) ≤ maxFrame ⌝ }
     ensures { λ r. ⌜ Scanned (quietCall (now (a .entry)) 0) (now (a .entry)) [] r ⌝ }
@@ -72,10 +77,10 @@ pub(crate) fn quiet(a: &[u8]) -> Scan
                 };
             }
             Front::Dead => {
-                at += 1;
+                at = next_head(a, at + 1, n);
             }
             Front::Open => {
-                at += 1;
+                at = next_head(a, at + 1, n);
             }
         }
     }

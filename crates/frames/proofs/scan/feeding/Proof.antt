@@ -12,6 +12,7 @@ use Rattle.frames.specs.Frame.{maxFrame}
 use Rattle.frames.specs.Fronts.{frontOf}
 use Rattle.frames.specs.LiveReading.{withoutFrame, feedingCall}
 use Rattle.frames.proofs.Positions.{feedingAt, feeding-start, dead-some, feeding-dead-at, feeding-waits-at, waits-room, feeding-whole-at, feeding-ends-at}
+use Rattle.frames.proofs.Stretches.{feeding-headless-at}
 use Rattle.frames.proofs.scan.feeding.Statement.{statement}
 use Rattle.frames.proofs.scan.feeding.Tie as tie
 
@@ -68,21 +69,46 @@ returns c =
 enum-told-2 : tie.Need-enum-told-2 Inv-loop μ-loop
 enum-told-2 c = search needs
 
-add-from : tie.Need-add-from Inv-loop μ-loop
-add-from c = omega arith
+add-next-head-of : tie.Need-add-next-head-of Inv-loop μ-loop
+add-next-head-of c = omega arith
+
+-- where a front is dead
+module _ (c : tie.After-enum-told2 Inv-loop μ-loop) where
+  abbrev d : tie.After-front-at Inv-loop μ-loop
+  d = c .before .before
+
+  dead : frontOf (slice (from d) (to d) (a d ++ b d)) ≡ Dead
+  dead = sym (d .front-at .ensures) ∙ c .enum-told2 .given .1
+
+  loses : from d < to d
+  loses = dead-some (a d ++ b d) (length (a d)) (from d) (to d) (omega arith) dead
+
+next-head-of-requires : tie.Need-next-head-of-requires Inv-loop μ-loop
+next-head-of-requires c κs = omega (arith, loses c)
+
+larger-requires : tie.Need-larger-requires Inv-loop μ-loop
+larger-requires c κs = search needs
 
 loop-less : tie.Need-loop-less Inv-loop μ-loop
 loop-less c =
-    let p = c .before .before in
-    let dead = sym (p .front-at .ensures) ∙ c .enum-told2 .given .1 in
-    omega (arith, dead-some (a p ++ b p) (length (a p)) (from p) (to p) (omega arith) dead)
+    let o = c .before .next-head-of .ensures .ordered in
+    omega (arith, loses (c .before .before))
 
 loop-again : tie.Need-loop-again Inv-loop μ-loop
 loop-again c =
-    let p = c .before .before in
-    let dead : frontOf (slice (from p) (to p) (a p ++ b p)) ≡ Dead = sym (p .front-at .ensures) ∙ c .enum-told2 .given .1 in
-    let some = dead-some (a p ++ b p) (length (a p)) (from p) (to p) (omega arith) dead in
-    (omega arith, (omega arith, (omega arith, (omega arith, goes-on p ∙ feeding-dead-at (a p ++ b p) (length (a p)) (from p) (to p) some (end p) dead))))
+    let e = c .before .before in
+    let p = d e in
+    let v = a p ++ b p in
+    let n = length (a p) in
+    let at = c .before .next-head-of in
+    let o = at .ensures .ordered in
+    let w = at .ensures .within in
+    let some = loses e in
+    let on =
+    feeding-dead-at v n (from p) (to p) some (end p) (dead e)
+    ∙ feeding-headless-at v n (from p + 1) (to p) (n + length (b p)) (at .result) (omega arith) (end p) (omega arith) (omega (arith, length-append (a p) (b p))) (at .ensures)
+    ∙ ap (feedingAt v n (at .result)) (sym (c .larger .ensures)) in
+    (omega arith, (omega arith, (omega arith, (omega arith, goes-on p ∙ on))))
 
 enum-told-3 : tie.Need-enum-told-3 Inv-loop μ-loop
 enum-told-3 c = search needs
@@ -156,7 +182,9 @@ feeding-spec =
     enum-told
     returns
     enum-told-2
-    add-from
+    add-next-head-of
+    next-head-of-requires
+    larger-requires
     loop-less
     loop-again
     enum-told-3

@@ -9,9 +9,11 @@ use lib.ListN.{length, drop}
 use lib.Seq.{drop-length}
 use Rattle.frames.specs.declared.front.Front.{Front}
 use Rattle.frames.specs.Fronts.{frontOf, isWhole}
+use Rattle.frames.specs.Scans.{Headless}
 use Rattle.frames.specs.LiveReading.{withFrame, withoutFrame, quietCall}
 use Rattle.frames.proofs.Turns.{quiet-whole, quiet-ends}
 use Rattle.frames.proofs.Positions.{to-end, quiet-drops-at, quiet-end-at}
+use Rattle.frames.proofs.Stretches.{quiet-headless-at}
 use Rattle.frames.proofs.scan.quiet.Statement.{statement}
 use Rattle.frames.proofs.scan.quiet.Tie as tie
 
@@ -38,8 +40,9 @@ module _ (c : tie.After-front-at Inv-loop μ-loop) where
   judged : (f : Front) → c .front-at .result ≡ f → frontOf (drop at a) ≡ f
   judged f e = sym (ap frontOf (to-end a at (length a) refl)) ∙ sym (c .front-at .ensures) ∙ e
 
-  drops : (f : Front) → c .front-at .result ≡ f → isWhole f ≡ false → quietCall a 0 ≡ quietCall (drop (at + 1) a) (at + 1)
-  drops f e w = goes-on ∙ quiet-drops-at a at (omega arith) (ap isWhole (judged f e) ∙ w)
+  -- any other front than a whole one loses its byte, and those up to r
+  drops : (f : Front) (r : ℕ) → c .front-at .result ≡ f → isWhole f ≡ false → Headless a (at + 1) (length a) r → quietCall a 0 ≡ quietCall (drop r a) r
+  drops f r e w h = goes-on ∙ quiet-drops-at a at (omega arith) (ap isWhole (judged f e) ∙ w) ∙ quiet-headless-at a (at + 1) r h
 
 slice-aggregate-front-at : tie.Need-slice-aggregate-front-at Inv-loop μ-loop
 slice-aggregate-front-at c = search needs
@@ -69,26 +72,38 @@ returns c =
 enum-told-2 : tie.Need-enum-told-2 Inv-loop μ-loop
 enum-told-2 c = search needs
 
-add-at : tie.Need-add-at Inv-loop μ-loop
-add-at c = search needs
+add-next-head : tie.Need-add-next-head Inv-loop μ-loop
+add-next-head c = search needs
+
+next-head-requires : tie.Need-next-head-requires Inv-loop μ-loop
+next-head-requires c κs = search needs
 
 loop-less : tie.Need-loop-less Inv-loop μ-loop
-loop-less c = search needs
+loop-less c = let o = c .next-head .ensures .ordered in omega arith
 
 loop-again : tie.Need-loop-again Inv-loop μ-loop
-loop-again c = let p = c .before .before in (omega arith, (refl, drops p _ (c .enum-told2 .given .1) refl))
+loop-again c =
+    let h = c .next-head in
+    let e = c .before in
+    (h .ensures .within, (refl, drops (e .before .before) _ (h .result) (e .enum-told2 .given .1) refl (h .ensures)))
 
 enum-told-3 : tie.Need-enum-told-3 Inv-loop μ-loop
 enum-told-3 c = search needs
 
-add-at-2 : tie.Need-add-at-2 Inv-loop μ-loop
-add-at-2 c = search needs
+add-next-head-2 : tie.Need-add-next-head-2 Inv-loop μ-loop
+add-next-head-2 c = search needs
+
+next-head-requires-2 : tie.Need-next-head-requires-2 Inv-loop μ-loop
+next-head-requires-2 c κs = search needs
 
 loop-less-2 : tie.Need-loop-less-2 Inv-loop μ-loop
-loop-less-2 c = search needs
+loop-less-2 c = let o = c .next-head2 .ensures .ordered in omega arith
 
 loop-again-2 : tie.Need-loop-again-2 Inv-loop μ-loop
-loop-again-2 c = let p = c .before .before in (omega arith, (refl, drops p _ (c .enum-told3 .given .1) refl))
+loop-again-2 c =
+    let h = c .next-head2 in
+    let e = c .before in
+    (h .ensures .within, (refl, drops (e .before .before) _ (h .result) (e .enum-told3 .given .1) refl (h .ensures)))
 
 returns-2 : tie.Need-returns-2 Inv-loop μ-loop
 returns-2 c =
@@ -118,11 +133,13 @@ quiet-spec =
     enum-told
     returns
     enum-told-2
-    add-at
+    add-next-head
+    next-head-requires
     loop-less
     loop-again
     enum-told-3
-    add-at-2
+    add-next-head-2
+    next-head-requires-2
     loop-less-2
     loop-again-2
     returns-2)

@@ -1,0 +1,59 @@
+-- `frames::search::past_blocks` meets its contract. The loop's invariant: no head stands in the blocks passed so far. Assumes nothing.
+use borrow.Author.Needs.{needs}
+use Prim.Native.Nat.{_+_, _-_}
+use native.Mathlib.Omega.{arith}
+use Rattle.frames.specs.Scans.{Headless, blockSize}
+use Rattle.frames.proofs.Stretches.{headless-none, headless-join, headless-farther}
+use Rattle.frames.proofs.search.past_blocks.Statement.{statement}
+use Rattle.frames.proofs.search.past_blocks.Tie as tie
+
+abbrev Inv-loop : tie.InvT-loop
+Inv-loop s from to i₀ i = Headless s from to i
+
+abbrev μ-loop : tie.MeasureT-loop
+μ-loop s from to i₀ i = to - i
+
+loop-holds : tie.Need-loop-holds Inv-loop μ-loop
+loop-holds c = let o = c .before .args in headless-none (o .s .now) (o .from) (o .to) (omega arith)
+
+add-loop : tie.Need-add-loop Inv-loop μ-loop
+add-loop c = search needs
+
+heads-requires : tie.Need-heads-requires Inv-loop μ-loop
+heads-requires c κs = search needs
+
+returns : tie.Need-returns Inv-loop μ-loop
+returns c = c .before .before .before .loop .inv
+
+add-i : tie.Need-add-i Inv-loop μ-loop
+add-i c = search needs
+
+loop-less : tie.Need-loop-less Inv-loop μ-loop
+loop-less c = search needs
+
+loop-again : tie.Need-loop-again Inv-loop μ-loop
+loop-again c =
+    let l = c .before .before .before in
+    let o = l .before .before .args in
+    let i = l .loop .i in
+    let block = c .before .heads .ensures (omega arith) in
+    headless-join (o .s .now) (o .from) (o .to) i (i + blockSize) (l .loop .inv)
+    (headless-farther (o .s .now) i (i + blockSize + 1) (o .to) (i + blockSize) (omega arith) block)
+
+returns-2 : tie.Need-returns-2 Inv-loop μ-loop
+returns-2 c = c .before .loop .inv
+
+pub past-blocks-spec : {M : Type 1} → statement M
+past-blocks-spec =
+    tie.close
+    (tie.spec
+    Inv-loop
+    μ-loop
+    loop-holds
+    add-loop
+    heads-requires
+    returns
+    add-i
+    loop-less
+    loop-again
+    returns-2)
