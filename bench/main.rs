@@ -1,6 +1,7 @@
 //! bench REPLAY MODEL FOLDER: times the replay program and the model on the same
-//! captures, feeding calls by themselves on the same bytes, and the compiled
-//! CRC-32 against two others. Medians of interleaved runs, and their ratios.
+//! captures, feeding calls by themselves on the same bytes, the compiled CRC-32
+//! against two others, and one portion call of the end check. Medians of
+//! interleaved runs, and their ratios.
 
 #[path = "../tests/model/crc.rs"]
 #[allow(dead_code)]
@@ -24,6 +25,16 @@ const TWO_HEADERS: [u8; 8] = [0x55, 0xAA, 0x55, 0xAA, 2, 7, 2, 7];
 const MIB: usize = 1 << 20;
 const ROOM: usize = 33;
 const AREA: usize = 65_536;
+/// The bytes of a transfer that fills the area: FA, FB, FC, FE, and 128 packets of 512.
+const TRANSFER: usize = 10 + 43 + 12 + 8 + 128 * 526;
+/// The size of a portion, and how many checks in such portions take some milliseconds.
+const PORTIONS: [(&str, usize, usize); 5] = [
+    ("portion of 1 byte", 1, 1),
+    ("portion of 64 bytes", 64, 8),
+    ("portion of 512 bytes", 512, 64),
+    ("portion of 4,096 bytes", 4096, 128),
+    ("portion of 65,536 bytes", 65_536, 128),
+];
 
 #[link(name = "crc32", kind = "static")]
 extern "C" {
@@ -33,6 +44,16 @@ extern "C" {
 #[link(name = "controller", kind = "static")]
 extern "C" {
     fn feed_record(bytes: *const u8, count: usize, cut: usize, room: *mut u8, size: usize, area: *mut u8, length: usize) -> usize;
+    fn check_record(
+        bytes: *const u8,
+        count: usize,
+        most: usize,
+        calls: usize,
+        room: *mut u8,
+        size: usize,
+        area: *mut u8,
+        length: usize,
+    ) -> usize;
 }
 
 #[cfg(zlib)]
@@ -51,13 +72,14 @@ fn main() -> io::Result<()> {
     };
     let folder = Path::new(folder);
     println!("Medians of {RUNS} runs each, interleaved. The first row of each group is 1.00.");
-    println!("Replay, feeding calls and CRC-32: built by `rt check` and `rt staticlib`. Model: `rustc -O`, no other flag.");
+    println!("Replay, feeding calls, portion calls and CRC-32: built by `rt check` and `rt staticlib`. Model: `rustc -O`, no other flag.");
     println!("Each replay is a process of its own and clears its buffers (area, input, output) at its start.\n");
     println!("| what | median ms | ratio |\n|---|---|---|");
     sound(replay, model, folder)?;
     sums(replay, model, folder)?;
     feeding()?;
-    checksums()
+    checksums()?;
+    portions(model)
 }
 
 fn sound(replay: &str, model: &str, folder: &Path) -> io::Result<()> {
@@ -150,6 +172,27 @@ fn checksums() -> io::Result<()> {
     Ok(())
 }
 
+/// Portion calls on a record that was fed a transfer with its FE. The feeding is
+/// timed by itself too, with no portion call behind it, and subtracted.
+fn portions(model: &str) -> io::Result<()> {
+    let transfer = Command::new(model).args(["sound", &TRANSFER.to_string()]).output()?.stdout;
+    let mut tasks: Vec<Task> = vec![("feeding alone", checked(&transfer, AREA, 0))];
+    for (what, most, checks) in PORTIONS {
+        assert_eq!(right(&transfer, most, AREA.div_ceil(most) - 1), 0); // a check takes no fewer calls
+        tasks.push((what, checked(&transfer, most, checks)));
+    }
+    let medians = medians(&tasks)?;
+    println!("\nOne portion call of the end check. An image of 65,536 bytes is read in portions of one size, call after call.");
+    println!("Medians of {RUNS} runs each, interleaved; the median of opening and feeding the transfer is subtracted.\n");
+    println!("| what | median ns a call | ns a byte |\n|---|---|---|");
+    for ((what, most, checks), median) in PORTIONS.into_iter().zip(&medians[1..]) {
+        let calls = checks * AREA.div_ceil(most);
+        let time = (median - medians[0]) * 1e6 / calls as f64;
+        println!("| {what} | {time:.0} | {:.2} |", time / most as f64);
+    }
+    Ok(())
+}
+
 fn frame(above: u8) -> Vec<u8> {
     let mut frame = vec![0x55, 0xAA, 0, 0, (DATA >> 8) as u8, (DATA & 255) as u8];
     frame.resize(6 + DATA, 0);
@@ -170,6 +213,21 @@ fn fed<'a>(bytes: &'a [u8], cut: usize, frames: usize) -> Run<'a> {
         let found = unsafe { feed_record(bytes.as_ptr(), bytes.len(), cut, room.as_mut_ptr(), ROOM, area.as_mut_ptr(), AREA) };
         if found == frames { Ok(()) } else { Err(io::Error::other("feeding found other frames")) }
     })
+}
+
+/// So many checks, each with as many calls as it takes to read the whole image.
+fn checked<'a>(transfer: &'a [u8], most: usize, checks: usize) -> Run<'a> {
+    Box::new(move || {
+        let found = right(transfer, most, checks * AREA.div_ceil(most));
+        if found == checks { Ok(()) } else { Err(io::Error::other("the end checks took other calls")) }
+    })
+}
+
+/// How many of so many portion calls found the transfer's image right.
+fn right(transfer: &[u8], most: usize, calls: usize) -> usize {
+    let (mut room, mut area) = ([0; ROOM], vec![0; AREA]);
+    let (count, size, length) = (transfer.len(), room.len(), area.len());
+    unsafe { check_record(transfer.as_ptr(), count, most, calls, room.as_mut_ptr(), size, area.as_mut_ptr(), length) }
 }
 
 fn computed<'a>(checksum: impl Fn() -> u32 + 'a) -> Run<'a> {
@@ -200,6 +258,15 @@ fn output(words: &[&str], capture: &Path) -> io::Result<Vec<u8>> {
 }
 
 fn table(tasks: &[Task]) -> io::Result<()> {
+    let medians = medians(tasks)?;
+    for (task, median) in tasks.iter().zip(&medians) {
+        println!("| {} | {median:.2} | {:.2} |", task.0, median / medians[0]);
+    }
+    Ok(())
+}
+
+/// The median time of each task, in milliseconds.
+fn medians(tasks: &[Task]) -> io::Result<Vec<f64>> {
     let mut times = vec![Vec::new(); tasks.len()];
     for _ in 0..RUNS {
         for (task, times) in tasks.iter().zip(&mut times) {
@@ -208,11 +275,7 @@ fn table(tasks: &[Task]) -> io::Result<()> {
             times.push(start.elapsed().as_secs_f64() * 1e3);
         }
     }
-    let medians: Vec<f64> = times.into_iter().map(median).collect();
-    for (task, median) in tasks.iter().zip(&medians) {
-        println!("| {} | {median:.2} | {:.2} |", task.0, median / medians[0]);
-    }
-    Ok(())
+    Ok(times.into_iter().map(median).collect())
 }
 
 fn median(mut times: Vec<f64>) -> f64 {

@@ -49,7 +49,15 @@ pub fn crc16(bytes: &[u8]) -> u16 {
 
 /// CRC-32 of an image or of its stored part.
 pub fn crc32(bytes: &[u8]) -> u32 {
-    !bytes
+    !crc32_over(CRC32_START, bytes)
+}
+
+/// The CRC-32's register before the first byte.
+pub const CRC32_START: u32 = !0;
+
+/// The CRC-32's register, moved over more bytes: an image may come in parts.
+pub fn crc32_over(register: u32, bytes: &[u8]) -> u32 {
+    bytes
         .iter()
-        .fold(!0, |crc: u32, &byte| (crc >> 8) ^ CRC32_TABLE[usize::from(crc as u8 ^ byte)])
+        .fold(register, |crc, &byte| (crc >> 8) ^ CRC32_TABLE[usize::from(crc as u8 ^ byte)])
 }

@@ -3,7 +3,7 @@
 
 use crate::link::Way;
 use crate::receiver::{Receiver, REPLY_ROOM};
-use crate::replay::{BENCH_AREA, BENCH_BOARD};
+use crate::replay::{BENCH_AREA, BENCH_BOARD, PORTION};
 use crate::sender::{Decision, Offer, Outcome, Sender, REQUEST_ROOM};
 use crate::session::{Board, Phase};
 use crate::words::Words;
@@ -67,10 +67,11 @@ impl Controller {
 
 impl End for Controller {
     /// "the frame's bytes are fed in one call [...]; if there is a reply it is
-    /// sent".
+    /// sent". An end check is finished before that (document 02, K5).
     fn arrives(&mut self, frame: &[u8]) -> Heard {
         let mut room = [0; REPLY_ROOM];
         let report = self.receiver.feed(frame, &mut self.area, &mut room);
+        let report = self.receiver.finish_check(report, PORTION, &self.area, &mut room);
         let action = match report.reply {
             0 => Action::Nothing,
             length => Action::Send(room[..length].to_vec()),

@@ -7,7 +7,7 @@
 
 use crate::crc::{crc16, crc32};
 use crate::receiver::{Outcome, Receiver, REPLY_ROOM};
-use crate::replay::{bench_receiver, BENCH_AREA};
+use crate::replay::{bench_receiver, BENCH_AREA, PORTION};
 use crate::rng::Rng;
 use crate::session::{Phase, Session};
 use crate::wire::{self, Image};
@@ -162,7 +162,8 @@ impl Bench {
         self.put(&frame);
     }
 
-    /// Sends bytes, to the capture and to the mirror.
+    /// Sends bytes, to the capture and to the mirror, whose end checks are finished
+    /// at once, as a replay does.
     fn put(&mut self, bytes: &[u8]) {
         self.capture.extend_from_slice(bytes);
         let mut room = [0; REPLY_ROOM];
@@ -170,6 +171,7 @@ impl Bench {
         loop {
             let before = self.session().stored as usize;
             let report = self.mirror.feed(rest, &mut self.area, &mut room);
+            let report = self.mirror.finish_check(report, PORTION, &self.area, &mut room);
             rest = &rest[report.taken..];
             match report.outcome {
                 Outcome::NoFrame => return,

@@ -1,8 +1,9 @@
 //! The model: an independent receiver and sender written from document 01 and
-//! 02's K1 to K3, their programs, and what to compare other ones with.
+//! 02's K1 to K3 and K5, their programs, and what to compare other ones with.
 //!
 //! Build: `rustc -O --edition 2021 main.rs -o model`. See `USAGE` for the modes.
 
+mod check;
 mod crc;
 mod cross;
 mod ends;
@@ -16,6 +17,8 @@ mod receiver;
 mod replay;
 mod rng;
 mod selftest;
+mod selftest_check;
+mod selftest_check_random;
 mod selftest_exchange;
 mod selftest_sender;
 mod sender;

@@ -8,7 +8,7 @@
 use crate::frame::{judge, Frame, Front, MAX_FRAME};
 
 /// Up to 526 bytes that are not decided yet: `bytes[start..start + len]`.
-#[derive(Clone)]
+#[derive(Clone, PartialEq, Eq)]
 pub struct Reader {
     bytes: [u8; MAX_FRAME],
     start: usize,

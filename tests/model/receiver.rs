@@ -1,5 +1,7 @@
-//! The receiver: board list, reader and session behind the calls of 01.
+//! The receiver: board list, reader and session behind the calls of 01, and the
+//! portion call of document 02's K5.
 
+use crate::check::{Portion, Verdict};
 use crate::frame::{self, Frame};
 use crate::reader::Reader;
 use crate::session::{Board, BoardList, Command, Refusal, Session};
@@ -9,7 +11,7 @@ pub const REPLY_ROOM: usize = 33;
 /// "the area's length, 1 to 1,048,576".
 pub const MAX_AREA: usize = 1_048_576;
 
-/// 01, "Outcome numbers".
+/// 01, "Outcome numbers"; 12, 18 and 19 are K5's.
 #[derive(Clone, Copy, Debug, PartialEq, Eq)]
 #[repr(u8)]
 pub enum Outcome {
@@ -25,6 +27,9 @@ pub enum Outcome {
     BadRecord = 9,
     OutOfTurn = 10,
     SmallReportRoom = 11,
+    CheckRunning = 12,
+    NoCheck = 18,
+    CheckUnfinished = 19,
 }
 
 impl From<Refusal> for Outcome {
@@ -34,6 +39,7 @@ impl From<Refusal> for Outcome {
             Refusal::WrongShape => Outcome::WrongShape,
             Refusal::UnlistedChannel => Outcome::UnlistedChannel,
             Refusal::OutOfTurn => Outcome::OutOfTurn,
+            Refusal::CheckRunning => Outcome::CheckRunning,
         }
     }
 }
@@ -58,7 +64,7 @@ impl Report {
 }
 
 /// The record.
-#[derive(Clone)]
+#[derive(Clone, PartialEq, Eq)]
 pub struct Receiver {
     boards: BoardList,
     area_len: usize,
@@ -102,6 +108,43 @@ impl Receiver {
             Some(frame) => reply(&mut self.session, &self.boards, frame, area, room),
         };
         report(outcome, step.taken, step.dropped, step.frame, reply)
+    }
+
+    /// A portion call: reads at most `most` more bytes of the image. It refuses "9,
+    /// 6, 5, then 18 when no check runs: count 0, unfinished, nothing changed". The
+    /// reader stays as it is: held bytes and "what stands past the held bytes".
+    pub fn portion(&mut self, most: usize, area: &[u8], room: &mut [u8]) -> (Outcome, Portion) {
+        if let Err(outcome) = self.check_call(area, room) {
+            return (outcome, Portion::default());
+        }
+        if !self.session.check.running {
+            return (Outcome::NoCheck, Portion::default());
+        }
+        let portion = self.session.portion(most, area, room);
+        match portion.verdict {
+            Verdict::Unfinished => (Outcome::CheckUnfinished, portion),
+            Verdict::Right | Verdict::Wrong => (Outcome::Answered, portion),
+        }
+    }
+
+    /// Finishes the check that the call with this report may have started, by
+    /// portion calls of at most `most` bytes, not 0. FE's reply, which comes with
+    /// the verdict, then stands in FE's report.
+    pub fn finish_check(
+        &mut self,
+        report: Report,
+        most: usize,
+        area: &[u8],
+        room: &mut [u8],
+    ) -> Report {
+        let mut reply = report.reply;
+        while self.session.check.running {
+            let (outcome, portion) = self.portion(most, area, room);
+            let made = matches!(outcome, Outcome::Answered | Outcome::CheckUnfinished);
+            assert!(made, "area and room are those of the call that started the check");
+            reply = portion.reply;
+        }
+        Report { reply, ..report }
     }
 
     /// Outward F9: "count n, then per board channel, soft version(3), hard

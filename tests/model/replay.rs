@@ -3,7 +3,9 @@
 //! 01, "Frames from the bench": "A replay program opens this board with a
 //! zeroed area, reads a capture on standard input, tells quiet at its end and
 //! writes, per frame, its first byte's place in the capture (decimal, from 0),
-//! command (hex), outcome and reply (`-` for none), then all drops."
+//! command (hex), outcome and reply (`-` for none), then all drops." An end check
+//! is finished before it feeds on or tells quiet, "with FE's reply on FE's line"
+//! (document 02, K5).
 
 use std::io::{self, Read, Write};
 
@@ -18,6 +20,9 @@ pub const BENCH_AREA: usize = 65_536;
 
 /// Input is read in pieces of this size; the output does not depend on it.
 const PIECE: usize = 64 * 1024;
+/// An end check is made in portions of this size, so that it mostly ends with a
+/// shorter one; the output does not depend on it either.
+pub const PORTION: usize = 1_000;
 
 /// A fresh record of the bench board.
 pub fn bench_receiver() -> Receiver {
@@ -54,7 +59,7 @@ impl<W: Write> Replay<W> {
         loop {
             let report = self.receiver.feed(rest, &mut self.area, &mut self.room);
             rest = &rest[report.taken..];
-            if !self.note(&report)? {
+            if !self.finish_check_and_note(report)? {
                 return Ok(());
             }
         }
@@ -64,13 +69,19 @@ impl<W: Write> Replay<W> {
     pub fn finish(mut self) -> io::Result<W> {
         loop {
             let report = self.receiver.quiet(&mut self.area, &mut self.room);
-            if !self.note(&report)? {
+            if !self.finish_check_and_note(report)? {
                 break;
             }
         }
         writeln!(self.out, "end dropped {}", self.dropped)?;
         self.out.flush()?;
         Ok(self.out)
+    }
+
+    /// Finishes the end check if the call started one, then notes the call.
+    fn finish_check_and_note(&mut self, report: Report) -> io::Result<bool> {
+        let report = self.receiver.finish_check(report, PORTION, &self.area, &mut self.room);
+        self.note(&report)
     }
 
     /// Counts a call and writes its frame's line; false if it had no frame.

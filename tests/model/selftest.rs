@@ -1,15 +1,17 @@
 //! Self-tests: the bench frames of 01, the check sums, round trips, live
 //! reading against its wording, packets sent again (document 02, K2), the
-//! outcomes a replay cannot show. The sender's and the exchange's have files of
-//! their own.
+//! outcomes a replay cannot show. The end check's (K5), the sender's and the
+//! exchange's have files of their own.
 
-use crate::crc::{crc16, crc32};
+use crate::check::EndCheck;
+use crate::crc::{crc16, crc32, CRC32_START};
 use crate::frame::{self, judge, parse, Front, MAX_DATA, MAX_FRAME};
 use crate::generate::{generate, KINDS, LONG_KIND};
 use crate::reader::Reader;
 use crate::receiver::{Outcome, Receiver, Report, MAX_AREA, REPLY_ROOM};
 use crate::replay::{bench_receiver, replay_bytes, Replay, BENCH_AREA, BENCH_BOARD};
 use crate::rng::Rng;
+use crate::selftest_check;
 use crate::selftest_exchange;
 use crate::selftest_sender;
 use crate::session::{Board, Identity, Phase, Session, NO_NEXT_NUMBER};
@@ -59,6 +61,7 @@ pub fn run() -> bool {
     last_packet_kept_and_forgotten(&mut tally);
     repeated_or_not(&mut tally);
     last_number(&mut tally);
+    selftest_check::run(&mut tally);
     selftest_sender::run(&mut tally);
     selftest_exchange::run(&mut tally);
     println!("selftest: {} checks, {} failed", tally.checks, tally.failed);
@@ -91,11 +94,15 @@ fn bitwise_crc16(bytes: &[u8]) -> u16 {
 }
 
 fn bitwise_crc32(bytes: &[u8]) -> u32 {
-    let mut crc = !0_u32;
+    !bitwise_crc32_over(CRC32_START, bytes)
+}
+
+pub fn bitwise_crc32_over(register: u32, bytes: &[u8]) -> u32 {
+    let mut crc = register;
     for bit in bytes.iter().flat_map(|byte| (0..8).map(move |shift| u32::from(byte >> shift) & 1)) {
         crc = (crc >> 1) ^ if (crc ^ bit) & 1 == 1 { 0xEDB8_8320 } else { 0 };
     }
-    !crc
+    crc
 }
 
 pub const P1: &str = "55 AA 00 FE 00 01 0A 08";
@@ -108,19 +115,19 @@ pub const P8: &str = "55 AA 00 FD 00 02 0A 00 08";
 const P9: &str = "55 AA 00 F9 00 08 01 0A 01 00 02 01 00 00 0F";
 
 /// A receiver with its area; frames go in whole, replies come out.
-struct Desk {
-    receiver: Receiver,
-    area: Vec<u8>,
+pub struct Desk {
+    pub receiver: Receiver,
+    pub area: Vec<u8>,
 }
 
 impl Desk {
-    fn new() -> Self {
+    pub fn new() -> Self {
         Desk { receiver: bench_receiver(), area: vec![0; BENCH_AREA] }
     }
 
     /// The bench desk with a leg open for this image, agreed size 64, and packets
     /// of these lengths in.
-    fn receiving(image: &Image, packets: &[usize]) -> Self {
+    pub fn receiving(image: &Image, packets: &[usize]) -> Self {
         let mut desk = Desk::new();
         desk.send(&wire::fa(10, 64));
         desk.send(&wire::fb(10, image));
@@ -134,9 +141,11 @@ impl Desk {
         desk
     }
 
-    fn send(&mut self, frame: &[u8]) -> (u8, Vec<u8>) {
+    /// Feeds a frame; an end check that it starts is made in one go.
+    pub fn send(&mut self, frame: &[u8]) -> (u8, Vec<u8>) {
         let mut room = [0xEE; REPLY_ROOM + 5];
         let report = self.receiver.feed(frame, &mut self.area, &mut room);
+        let report = self.receiver.finish_check(report, usize::MAX, &self.area, &mut room);
         assert!(room[report.reply..].iter().all(|&byte| byte == 0xEE), "room past the reply");
         (report.outcome as u8, room[..report.reply].to_vec())
     }
@@ -354,10 +363,11 @@ fn read_whole(capture: &[u8]) -> String {
 }
 
 /// Replays do not depend on the pieces and equal the reading of the whole; a
-/// capture depends on kind and seed alone; every outcome turns up.
+/// capture depends on kind and seed alone; every outcome turns up that a replay
+/// can have.
 fn generated_captures(t: &mut Tally) {
     let mut rng = Rng::new(4);
-    let mut seen = [0_usize; 12];
+    let mut seen = [0_usize; 20];
     for round in 0..330 {
         let kind = KINDS[round % (KINDS.len() - 1)];
         let seed = rng.next();
@@ -370,16 +380,16 @@ fn generated_captures(t: &mut Tally) {
         capture.chunks(piece).for_each(|piece| replay.feed(piece).unwrap());
         let pieces = replay.finish().unwrap();
         t.holds(&format!("pieces of {piece}, {kind} {seed}"), pieces == text.as_bytes());
-        for outcome in text.lines().filter_map(|line| line.split(' ').nth(2)?.parse::<usize>().ok())
-        {
-            if let Some(count) = seen.get_mut(outcome) {
-                *count += 1;
-            }
+        let frames = text.lines().filter(|line| !line.starts_with("end"));
+        for outcome in frames.filter_map(|line| line.split(' ').nth(2)?.parse::<usize>().ok()) {
+            seen[outcome] += 1;
         }
     }
     for outcome in [0, 2, 3, 4, 10] {
         t.holds(&format!("outcome {outcome} turns up"), seen[outcome] > 50);
+        seen[outcome] = 0;
     }
+    t.same("no other outcome ever", seen, [0; 20]);
     let sound = replayed(&wire::sound(200_000));
     t.holds("sound transfers drop nothing", sound.ends_with("end dropped 0\n"));
     let ends: Vec<&str> = sound.lines().filter(|line| line.contains(" FE 0 ")).collect();
@@ -486,6 +496,7 @@ fn lawful_records(t: &mut Tally) {
         stored: 100,
         last_packet: 100,
         identity,
+        check: EndCheck::default(),
     };
     let mut check = |what: &str, lawful: bool, change: fn(&mut Session)| {
         let mut receiver = bench_receiver();
@@ -574,7 +585,7 @@ fn refused_or_repeated(t: &mut Tally, desk: &mut Desk, what: &str, frame: &[u8],
 }
 
 /// Sixty bytes, no two alike.
-fn sixty() -> Image {
+pub fn sixty() -> Image {
     Image::new([1, 0, 3], 1, (0..60).map(|place| place * 4 + 3).collect())
 }
 
@@ -713,6 +724,7 @@ fn repeated_or_not(t: &mut Tally) {
         stored: stored as u32,
         last_packet,
         identity: Identity { length: image.length, ..Identity::default() },
+        check: EndCheck::default(),
     };
     let mut states = [0_usize; 5];
     for (next, last) in [0, 1, 2, 0x100, 0xFFFF, NO_NEXT_NUMBER]

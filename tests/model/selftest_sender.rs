@@ -6,7 +6,7 @@ use crate::ends::{Action, End, Module};
 use crate::frame::parse;
 use crate::reader::Reader;
 use crate::receiver::{Receiver, REPLY_ROOM};
-use crate::replay::{BENCH_AREA, BENCH_BOARD};
+use crate::replay::{BENCH_AREA, BENCH_BOARD, PORTION};
 use crate::rng::Rng;
 use crate::selftest::{unhex, Tally, P1, P3, P4, P6, P7, P8};
 use crate::sender::{Decision, Offer, Outcome, Phase, Sender, MAX_IMAGE, REQUEST_ROOM};
@@ -678,6 +678,7 @@ fn bench_example(t: &mut Tally) {
         let bytes = request(&sender, image);
         t.same("the example's request", hex(&bytes), hex(&unhex(wanted)));
         let report = receiver.feed(&bytes, &mut area, &mut room);
+        let report = receiver.finish_check(report, PORTION, &area, &mut room);
         t.same("the controller's reply", hex(&room[..report.reply]), hex(&unhex(reply)));
         let next = Sender { offer, length: 9, phase, ..Sender::default() };
         let got = sender.reply(image, &unhex(reply));

@@ -1,8 +1,9 @@
 //! The session: what the controller answers to each frame of the module.
 //!
 //! 01, "How the session answers", and its tables; document 02, K2, where a
-//! packet is sent again.
+//! packet is sent again, and K5, where the end check is made in slices.
 
+use crate::check::{EndCheck, Portion, Verdict};
 use crate::crc::{crc16, crc32};
 use crate::frame::{self, Frame};
 
@@ -100,6 +101,8 @@ pub struct Session {
     /// whenever stored becomes 0" (document 02, K2).
     pub last_packet: u16,
     pub identity: Identity,
+    /// The end check, which an FE starts and portion calls finish (K5).
+    pub check: EndCheck,
 }
 
 /// The six commands.
@@ -178,6 +181,8 @@ pub enum Refusal {
     UnlistedChannel,
     /// "FB or FC in a wrong phase or channel"
     OutOfTurn,
+    /// "While a check runs, FA to FE get a new outcome 12 after 4, as 2."
+    CheckRunning,
 }
 
 #[derive(Clone, Copy, Debug, PartialEq, Eq)]
@@ -228,7 +233,7 @@ impl Session {
     /// of `room`, which has space for every reply.
     ///
     /// "First version byte, L and channel are checked (outcomes 2, 3, 4 below,
-    /// in that order)."
+    /// in that order)." Then outcome 12, which F9 never gets.
     pub fn answer(
         &mut self,
         boards: &BoardList,
@@ -246,6 +251,9 @@ impl Session {
         let mut fields = Fields(frame.data);
         let channel = fields.byte();
         let board = boards.find(channel).ok_or(Refusal::UnlistedChannel)?;
+        if self.check.running {
+            return Err(Refusal::CheckRunning);
+        }
 
         match row.command {
             Command::Report => Ok(0),
@@ -269,10 +277,10 @@ impl Session {
                 let state = self.packet(&Packet::read(channel, fields), area);
                 Ok(row.reply(room, &[channel, state as u8]))
             }
-            Command::End => {
-                let state = self.end(channel, area);
-                Ok(row.reply(room, &[channel, state as u8]))
-            }
+            Command::End => match self.end(channel) {
+                Some(state) => Ok(row.reply(room, &[channel, state as u8])),
+                None => Ok(0), // FE's reply comes with the verdict
+            },
         }
     }
 
@@ -401,24 +409,54 @@ impl Session {
     }
 
     /// FE: "Not receiving or done, or another channel: 03, nothing changes.
-    /// Stored is not announced: 01, nothing changes. CRC-32 of the area's first
-    /// announced bytes differs: 03, phase idle, stored 0, identity all zero (its
-    /// channel too). Otherwise 00, phase done."
-    fn end(&mut self, channel: u8, area: &[u8]) -> EndState {
-        if !matches!(self.phase, Phase::Receiving | Phase::Done) || channel != self.channel {
-            return EndState::Refused;
+    /// Stored is not announced: 01, nothing changes." These are answered at once;
+    /// "An FE that gets as far as the CRC starts a check" and has no state yet.
+    fn end(&mut self, channel: u8) -> Option<EndState> {
+        if !self.may_end() || channel != self.channel {
+            return Some(EndState::Refused);
         }
         if self.stored != self.identity.length {
-            return EndState::Incomplete;
+            return Some(EndState::Incomplete);
         }
-        if crc32(&area[..self.identity.length as usize]) != self.identity.crc32 {
+        self.check = EndCheck::STARTED;
+        None
+    }
+
+    fn may_end(&self) -> bool {
+        matches!(self.phase, Phase::Receiving | Phase::Done)
+    }
+
+    /// A portion of the running check. "The call that reads the last byte gives
+    /// the verdict and FE's reply", which is written to the front of `room`.
+    pub fn portion(&mut self, most: usize, area: &[u8], room: &mut [u8]) -> Portion {
+        let image = &area[..self.identity.length as usize];
+        let count = self.check.read_on(most, image);
+        if (self.check.read as usize) < image.len() {
+            return Portion { count, ..Portion::default() };
+        }
+        let (verdict, state) = if self.check.crc32() == self.identity.crc32 {
+            (Verdict::Right, EndState::Accepted)
+        } else {
+            (Verdict::Wrong, EndState::Refused)
+        };
+        self.finish_check(verdict);
+        let row = Row::of(Command::End as u8).expect("FE is in the table");
+        let reply = row.reply(room, &[self.channel, state as u8]);
+        Portion { count, verdict, reply }
+    }
+
+    /// "makes FE's changes and zeroes the check's own fields". FE's changes: "CRC-32
+    /// of the area's first announced bytes differs: [...] phase idle, stored 0,
+    /// identity all zero (its channel too). Otherwise [...] phase done."
+    fn finish_check(&mut self, verdict: Verdict) {
+        self.check = EndCheck::default();
+        if verdict == Verdict::Right {
+            self.phase = Phase::Done;
+        } else {
             self.phase = Phase::Idle;
             self.forget_stored();
             self.identity = Identity::default();
-            return EndState::Refused;
         }
-        self.phase = Phase::Done;
-        EndState::Accepted
     }
 
     /// Stored becomes 0, and with it the last packet's length.
@@ -428,8 +466,8 @@ impl Session {
     }
 
     /// The session's part of "Outcome 9 is given exactly when", and of K2's "also
-    /// given if it is above 512 or above stored". The agreed size is no bound for
-    /// the last packet: FA may agree on a smaller one.
+    /// given if it is above 512 or above stored", and K5's. The agreed size is no
+    /// bound for the last packet: FA may agree on a smaller one.
     pub fn lawful(&self, boards: &BoardList, area_len: usize) -> bool {
         let announced = self.identity.length;
         let leg_open = matches!(self.phase, Phase::Told | Phase::Receiving | Phase::Done);
@@ -442,6 +480,16 @@ impl Session {
                 || (boards.find(self.channel).is_some()
                     && (MIN_PACKET..=MAX_PACKET).contains(&self.packet_size)))
             && (!leg_open || announced != 0)
+            && (!self.check.running || self.check_lawful())
+    }
+
+    /// "Outcome 9 is also given if a running check has read the announced length or
+    /// more, or runs though stored is not announced or the phase is not receiving
+    /// or done."
+    fn check_lawful(&self) -> bool {
+        self.check.read < self.identity.length
+            && self.stored == self.identity.length
+            && self.may_end()
     }
 }
 

@@ -132,6 +132,7 @@ pub fn stored() -> Stored {
     repeated_packets(&mut s);
     repeats_and_legs(&mut s);
     equal_packets(&mut s);
+    several_portions(&mut s);
     frames_in_frames(&mut s);
     torn_end(&mut s);
     s
@@ -617,6 +618,21 @@ fn equal_packets(s: &mut Stored) {
     s.packet(&packet(2), 1, "FD 2 again: state 01");
     s.packet(&packet(0), 0, "FD 0, 16 bytes: state 00");
     s.packet(&packet(0), 0, "FD 0 sent again: state 00");
+}
+
+/// An image that no portion of the end check reads back whole (document 02, K5).
+fn several_portions(s: &mut Stored) {
+    let bytes: Vec<u8> = (0..8704u32).map(|i| (i * 7 + i / 256) as u8).collect();
+    let image = Image::new([1, 0, 6], 0xA2, bytes.clone());
+    s.ask(512, 0, "FA, Len1 512");
+    s.tell(&image, 0, &[], "FB of 8,704 bytes: another identity, stored 0");
+    s.offset(0, 0, "FC at 0: granted");
+    for (number, packet) in bytes.chunks(512).enumerate() {
+        let note = format!("FD {number}, 512 bytes: state 00");
+        s.packet(&fd(CHANNEL, number as u16, packet), 0, &note);
+    }
+    s.end(0, "FE: state 00, after several portions of the end check");
+    s.end(0, "FE again, right behind it: state 00");
 }
 
 fn frames_in_frames(s: &mut Stored) {

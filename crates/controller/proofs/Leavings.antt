@@ -1,32 +1,29 @@
 -- What each outcome leaves. Assumes nothing.
 use mathlib.Core.Path.{_≡_, refl, sym, ap, _∙_, subst}
-use mathlib.Core.Bool.{Bool, true, false, cond, not}
+use mathlib.Core.Bool.{Bool, true, false, not}
 use mathlib.Core.Logic.{_⊎_, inl, inr, ⊎-elim}
 use mathlib.Core.List.{List}
 use Prim.Native.Nat.{ℕ}
 use native.Mathlib.Omega.{arith}
-use borrow.Author.Tests.{eqb-true, eqb-false, ne-eqb}
+use borrow.Author.Tests.{eqb-true, eqb-false}
 use lib.Dec.{eqb, ltb}
 use lib.ListN.{length}
 use Rattle.frames.specs.declared.reader.Fed.{Fed}
 use Rattle.frames.specs.Finished.{finished}
-use Rattle.frames.specs.LiveReading.{CallResult, Call, called, fedBy, heldBytes, holding, handedBack}
+use Rattle.frames.specs.LiveReading.{CallResult, Call, called, fedBy, heldBytes, handedBack}
 use Rattle.frames.proofs.Calls.{call-accepted}
-use Rattle.session.specs.declared.session.Session.{Session}
-use Rattle.session.specs.Lawful.{unlawful}
-use Rattle.session.specs.Outcomes.{isAnswered, shortRoom, otherArea, isUnlawful}
-use Rattle.session.specs.Answering.{answered, areaAfter}
+use Rattle.session.specs.Answering.{answered}
 use Rattle.session.proofs.Unanswered.{NoRefusal, nothing-changed, answer-accepts}
 use Rattle.controller.specs.declared.record.Record.{Record}
 use Rattle.controller.specs.Records.{unlawfulRecord}
-use Rattle.controller.specs.Calls.{minRoom, refusalOf, CallLeaves, refusedCall, finishedCall, calledBy}
-use Rattle.controller.specs.Leaving.{AllUnchanged, SessionUnchanged, IsRefusal, OutcomesLeave, Leaving}
+use Rattle.controller.specs.Calls.{minRoom, refusalOf, refusedCall, finishedCall, calledBy}
+use Rattle.controller.specs.Leaving.{IsRefusal, OutcomesLeave, Leaving}
 use Rattle.controller.proofs.Refusals.{lawful-record, accepted-of}
 use Rattle.controller.proofs.Steps.{calling-refused, calling-accepted}
 
 -- ---- refused
 
-refusal-is : (r : Record) (room area : ℕ) → (refusalOf r room area ≡ 0 → ⊥) → IsRefusal (refusalOf r room area)
+pub refusal-is : (r : Record) (room area : ℕ) → (refusalOf r room area ≡ 0 → ⊥) → IsRefusal (refusalOf r room area)
 unfolding refusalOf
 refusal-is r room area n = go (unlawfulRecord r) (not (eqb area (r .session .opened))) (ltb room minRoom) refl refl refl
   where
@@ -36,11 +33,11 @@ refusal-is r room area n = go (unlawfulRecord r) (not (eqb area (r .session .ope
     go false false true ea eb ec = inl (simp (ea, eb, ec))
     go false false false ea eb ec = absurd (n (simp (ea, eb, ec)))
 
-nine-given : (r : Record) (room area : ℕ) → unlawfulRecord r ≡ true → refusalOf r room area ≡ 9
+pub nine-given : (r : Record) (room area : ℕ) → unlawfulRecord r ≡ true → refusalOf r room area ≡ 9
 unfolding refusalOf
 nine-given r room area e = rw e
 
-nine-only : (r : Record) (room area : ℕ) → refusalOf r room area ≡ 9 → unlawfulRecord r ≡ true
+pub nine-only : (r : Record) (room area : ℕ) → refusalOf r room area ≡ 9 → unlawfulRecord r ≡ true
 unfolding refusalOf
 nine-only r room area e = go (unlawfulRecord r) (not (eqb area (r .session .opened))) (ltb room minRoom) refl refl refl
   where
@@ -88,7 +85,7 @@ finished-leaves c rest r room area lawful size = go (x .found) refl
           holds = λ _. refl;
           unanswered = λ _ n.
               let same = nothing-changed s f area n in
-              record { no-reply = rw (ne-eqb _ _ n); same-session = same .session; same-room = rw (ne-eqb _ _ n); same-area = same .same-area };
+              record { no-reply = rw (same .no-reply); same-session = same .session; same-room = rw (same .no-reply); same-area = same .same-area };
         })
     go false e =
         let p : NoRefusal 1 = (λ z. omega arith, (λ z. omega arith, λ z. omega arith)) in

@@ -1,16 +1,15 @@
 -- Opening: what succeeds can be run, what is refused meets 9. Assumes nothing.
 use mathlib.Core.Path.{_≡_, refl, sym, ap, _∙_}
-use mathlib.Core.Bool.{true, false}
+use mathlib.Core.Bool.{true}
 use mathlib.Core.List.{List}
 use Prim.Native.Nat.{ℕ}
 use native.Mathlib.Omega.{arith}
 use lib.ListN.{length}
-use Rattle.frames.specs.Frame.{maxFrame}
 use Rattle.transfer.specs.declared.board.Board.{Board}
 use Rattle.session.specs.declared.session.Session.{Session}
 use Rattle.session.specs.Outcomes.{isAnswered}
 use Rattle.session.specs.Boards.{maxBoards}
-use Rattle.session.specs.Opening.{noSession, freshSession, opened}
+use Rattle.session.specs.Opening.{freshSession, opened}
 use Rattle.session.proofs.Openings.{open-usable, open-refused, none-unlawful}
 use Rattle.controller.specs.Records.{unlawfulRecord, holdingNothing, freshRecord, noRecord, openedRecord}
 use Rattle.controller.specs.Demand3.{RunStart}
@@ -39,6 +38,7 @@ opens bs n size ten =
             lawful = record-accepted (holdingNothing (opened bs n size .session)) (record { count = omega arith; session = u .accepted });
             nothing-held = refl;
             size = e ∙ sym (ap (λ (s : Session). s .opened) (u .fresh));
+            no-check = ap (λ (s : Session). s .transfer .check .running) (u .fresh);
           };
       zero = λ z. ap holdingNothing (open-refused bs n size z);
     }

@@ -1,10 +1,10 @@
 -- A lawful record, and a call that is not refused. Assumes nothing.
 use mathlib.Core.Path.{_≡_, refl, sym, ap, ap₂, _∙_}
 use mathlib.Core.Bool.{Bool, true, false, cond, not, _||_}
-use mathlib.Core.List.{List, []}
+use mathlib.Core.Logic.{_↔_}
 use Prim.Native.Nat.{ℕ, _<_, _≤_}
 use native.Mathlib.Omega.{arith}
-use borrow.Author.Tests.{ltb-false, le-ltb, eqb-true, eq-eqb, not-false}
+use borrow.Author.Tests.{ltb-true, ltb-false, le-ltb, eqb-true, eqb-false, eq-eqb, not-false}
 use lib.Dec.{ltb, eqb}
 use Rattle.frames.specs.Frame.{maxFrame}
 use Rattle.frames.proofs.Choices.{no-refusal, neither}
@@ -44,3 +44,21 @@ accepted-of r room area e =
 pub accepts : (r : Record) (room area : ℕ) → Accepted r room area → refusalOf r room area ≡ 0
 unfolding refusalOf
 accepts r room area a = simp (a .lawful, eq-eqb area (r .session .opened) (a .size), le-ltb room minRoom (a .wide))
+
+-- 6 and 5, each where what is judged before it does not refuse
+pub six-given : (r : Record) (room area : ℕ) → unlawfulRecord r ≡ false → (refusalOf r room area ≡ 6) ↔ (area ≡ r .session .opened → ⊥)
+unfolding refusalOf
+six-given r room area ok = go (eqb area (r .session .opened)) (ltb room minRoom) refl refl
+  where
+    go : (b c : Bool) → eqb area (r .session .opened) ≡ b → ltb room minRoom ≡ c → (refusalOf r room area ≡ 6) ↔ (area ≡ r .session .opened → ⊥)
+    go true true eb ec = rw (ok, eb, ec) (λ z. absurd (omega arith), λ n. absurd (n (eqb-true _ _ eb)))
+    go true false eb ec = rw (ok, eb, ec) (λ z. absurd (omega arith), λ n. absurd (n (eqb-true _ _ eb)))
+    go false c eb ec = rw (ok, eb) (λ _. eqb-false _ _ eb, λ _. refl)
+
+pub five-given : (r : Record) (room area : ℕ) → unlawfulRecord r ≡ false → area ≡ r .session .opened → (refusalOf r room area ≡ 5) ↔ (room < minRoom)
+unfolding refusalOf
+five-given r room area ok size = go (ltb room minRoom) refl
+  where
+    go : (c : Bool) → ltb room minRoom ≡ c → (refusalOf r room area ≡ 5) ↔ (room < minRoom)
+    go true ec = rw (ok, eq-eqb area (r .session .opened) size, ec) (λ _. ltb-true _ _ ec, λ _. refl)
+    go false ec = rw (ok, eq-eqb area (r .session .opened) size, ec) (λ z. absurd (omega arith), λ h. absurd (let n = ltb-false room minRoom ec in omega arith))

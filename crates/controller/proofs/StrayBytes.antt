@@ -1,23 +1,23 @@
 -- Demand 3: by induction over the list of calls. Assumes nothing.
-use mathlib.Core.Path.{_≡_, refl, sym, ap, ap₂, _∙_, subst}
-use mathlib.Core.Bool.{Bool, true, false}
-use mathlib.Core.List.{List, [], _∷_, _++_}
+use mathlib.Core.Path.{_≡_, sym, ap, ap₂, _∙_, subst}
+use mathlib.Core.List.{List, [], _∷_, _++_, append-assoc}
 use Prim.Native.Nat.{ℕ}
 use native.Mathlib.Omega.{arith}
-use lib.ListN.{length, take}
+use lib.ListN.{take}
 use Rattle.frames.specs.Frame.{Bytes, maxFrame, Frame}
 use Rattle.frames.specs.Finished.{padded}
 use Rattle.frames.specs.Reading.{Reading, reading}
 use Rattle.frames.specs.Series.{Series}
-use Rattle.frames.specs.PlainRun.{Plain, plain}
+use Rattle.frames.specs.PlainRun.{plain, Begins}
 use Rattle.frames.proofs.Readings.{series-read}
 use Rattle.frames.proofs.Remains.{Remains, remains-start, remains-first, remains-none}
-use Rattle.session.specs.declared.session.Session.{Session}
 use Rattle.controller.specs.declared.record.Record.{Record}
 use Rattle.controller.specs.Records.{holdingNothing}
-use Rattle.controller.specs.Demand3.{State, stepTo, replyTo, plainRun, Listed, Place, next, run, Allowed, AllAllowed, RunStart, start, Ended, AsPlainRun, StrayFree, EqualAtEnd}
+use Rattle.controller.specs.Demand3.{State, stepTo, replyTo, plainRun, Listed, Place, next, run, AllAllowed, RunStart, start, Ended, AsPlainRun, StrayFree, EqualAtEnd}
 use Rattle.controller.proofs.Refusals.{lawful-record}
-use Rattle.controller.proofs.Steps.{stateOf, heldOf, Keeps, next-keeps}
+use Rattle.controller.proofs.Steps.{stateOf, heldOf}
+use Rattle.controller.proofs.Settling.{settledState, dueReply}
+use Rattle.controller.proofs.Keeping.{Keeps, still-settled, still-due, still-remains, next-keeps}
 
 abbrev pub startState : Record → List ℕ → State
 startState r area = record { session = r .session; area = area }
@@ -30,8 +30,12 @@ start-keeps r area b o q =
       good = record { lawful = lawful-record r (o .lawful) .session; size = o .size };
       count = omega (arith, o .nothing-held);
       remains =
-          subst (λ (x : List ℕ). Remains stepTo replyTo (startState r area) (reading b .frames) (reading b .dropped) [] 0 (startState r area) x b) e
-          (remains-start stepTo replyTo (startState r area) b q);
+          subst (λ (y : List (List ℕ)). Remains stepTo replyTo (startState r area) (reading b .frames) (reading b .dropped) y 0 (settledState (startState r area)) (heldOf (start r area b)) b)
+          (sym (still-due (startState r area) (o .no-check)))
+          (subst (λ (u : State). Remains stepTo replyTo (startState r area) (reading b .frames) (reading b .dropped) [] 0 u (heldOf (start r area b)) b)
+          (sym (still-settled (startState r area) (o .no-check)))
+          (subst (λ (x : List ℕ). Remains stepTo replyTo (startState r area) (reading b .frames) (reading b .dropped) [] 0 (startState r area) x b) e
+          (remains-start stepTo replyTo (startState r area) b q)));
       after-quiet = λ t. let z : _≡_ {A = ℕ} 0 1 = cc in absurd (omega arith);
     }
 
@@ -39,14 +43,18 @@ run-keeps : (s₀ : State) (fs : List Frame) (n : ℕ) (cs : List Listed) (p : P
 run-keeps s₀ fs n [] p k f = k
 run-keeps s₀ fs n (c ∷ cs) p k f = run-keeps s₀ fs n cs (next c p) (next-keeps s₀ fs n c p k (f .0)) (f .1)
 
+-- what begins with more begins with less
+begins-less : (xs more ys : List (List ℕ)) → Begins (xs ++ more) ys → Begins xs ys
+begins-less xs more ys b = record { rest = more ++ b .rest; joined = sym (append-assoc xs more (b .rest)) ∙ b .joined }
+
 stray-free : (s₀ : State) (fs : List Frame) (n : ℕ) (p : Place) → Keeps s₀ fs n p → StrayFree (plain stepTo replyTo s₀ fs) n p
-stray-free s₀ fs n p k = record { so-far = remains-first stepTo replyTo (k .remains); at-end = λ e. ends e }
+stray-free s₀ fs n p k = record { so-far = begins-less (p .replies) (dueReply (stateOf p)) _ (remains-first stepTo replyTo (k .remains)); at-end = λ e. ends e }
   where
     ends : Ended p → AsPlainRun (plain stepTo replyTo s₀ fs) n p
     ends e =
         let none : heldOf p ≡ [] = ap (λ (i : ℕ). take i (p .at .reader .held)) (e .nothing-held) in
         let y = k .after-quiet (e .quiet-came) in
-        let r1 = subst (λ (x : List ℕ). Remains stepTo replyTo s₀ fs n (p .replies) (p .dropped) (stateOf p) x (p .untaken)) none (k .remains) in
+        let r1 = subst (λ (x : List ℕ). Remains stepTo replyTo s₀ fs n (p .replies) (p .dropped) (stateOf p) x (p .untaken)) none (still-remains s₀ fs n p k (e .no-check)) in
         let r2 = subst (λ (x : List ℕ). Remains stepTo replyTo s₀ fs n (p .replies) (p .dropped) (stateOf p) [] x) (y .0) r1 in
         let w = remains-none stepTo replyTo r2 in
         let zeros : p .at .reader .held ≡ padded maxFrame [] = y .1 ∙ ap (padded maxFrame) none in

@@ -1,16 +1,19 @@
 -- 01, "Frames from the bench", as one table: for each row the frames fed before, each of which must be answered, then what is done and
--- everything that is to be seen of it. Assumes nothing.
-use mathlib.Core.Bool.{Bool, true, false, _&&_}
+-- everything that is to be seen of it. The rows behind P8's go on to the end check and its portions (document 02, K5). Assumes nothing.
+use mathlib.Core.Bool.{Bool, true, _&&_}
 use mathlib.Core.List.{List, [], _∷_, _++_}
 use Prim.Native.Nat.{ℕ}
 use lib.Dec.{eqb}
 use lib.ListN.{take, replicate}
 use Rattle.frames.specs.Finished.{zeros}
 use Rattle.transfer.specs.declared.board.Board.{Board}
+use Rattle.transfer.specs.declared.check.Verdict.{Verdict}
+use Rattle.transfer.specs.declared.check.Verdict.the-variants.{Unfinished, Right}
 use Rattle.session.specs.Boards.{noBoard}
 use Rattle.controller.specs.declared.record.Record.{Record}
 use Rattle.controller.specs.Records.{openedRecord}
-use Rattle.controller.specs.Calls.{CallLeaves, fedCall}
+use Rattle.controller.specs.Calls.{fedCall}
+use Rattle.controller.specs.Portions.{portionCall}
 use Rattle.controller.specs.OutwardReport.{reported, roomReported}
 
 -- "Board: channel 10, soft 1.0.2, hard 1.0.0, PID all zero, permitted, area 65,536."
@@ -23,9 +26,10 @@ areaSize = 65536
 abbrev pub fresh : Record
 fresh = openedRecord (board ∷ replicate 9 noBoard) 1 areaSize .next
 
--- feeding some bytes, or the outward F9
+-- feeding some bytes, a portion of the end check, or the outward F9
 pub data Action : Type 0 where
   feeds : List ℕ → Action
+  checks : ℕ → Action
   reports : Action
 
 -- all that is seen of it; `earlier` says that every frame fed before was answered
@@ -37,6 +41,9 @@ pub record Seen : Type 0 where
   pub dropped : ℕ
   pub command : ℕ
   pub L : ℕ
+  -- bytes of the image that a portion read, and what it said
+  pub count : ℕ
+  pub verdict : Verdict
 
 pub record Row : Type 0 where
   pub before : List (List ℕ)
@@ -54,6 +61,21 @@ seen earlier (feeds bytes) r area =
       dropped = x .called .dropped;
       command = x .called .command;
       L = x .called .«data_length»;
+      count = 0;
+      verdict = Unfinished;
+    }
+seen earlier (checks most) r area =
+    let x = portionCall most r (zeros 33) area in
+    record {
+      earlier = earlier;
+      outcome = x .called .outcome;
+      reply = take (x .called .«reply_length») (x .room);
+      taken = 0;
+      dropped = 0;
+      command = 0;
+      L = 0;
+      count = x .called .count;
+      verdict = x .called .verdict;
     }
 seen earlier reports r area =
     record {
@@ -64,6 +86,8 @@ seen earlier reports r area =
       dropped = 0;
       command = 0;
       L = 0;
+      count = 0;
+      verdict = Unfinished;
     }
 
 abbrev pub seenAfter : List (List ℕ) → Bool → Action → Record → List ℕ → Seen
@@ -117,9 +141,13 @@ p7 =
 abbrev pub p8 : List ℕ
 p8 = 0x55 ∷ 0xAA ∷ 0x00 ∷ 0xFD ∷ 0x00 ∷ 0x02 ∷ 0x0A ∷ 0x00 ∷ 0x08 ∷ []
 
--- the end request after all nine bytes, sent once or twice: success
+-- the end request after all nine bytes starts a check, and the portion that reads the last of them gives success
 abbrev pub success : List ℕ
 success = 0x55 ∷ 0xAA ∷ 0x00 ∷ 0xFE ∷ 0x00 ∷ 0x02 ∷ 0x0A ∷ 0x00 ∷ 0x09 ∷ []
+
+-- an end request for channel 11, which is not listed
+abbrev pub feOther : List ℕ
+feOther = 0x55 ∷ 0xAA ∷ 0x00 ∷ 0xFE ∷ 0x00 ∷ 0x01 ∷ 0x0B ∷ 0x09 ∷ []
 
 -- "P9 outward F9"
 abbrev pub p9 : List ℕ
@@ -138,7 +166,16 @@ row before action outcome reply taken dropped command L =
     record {
       before = before;
       action = action;
-      wanted = record { earlier = true; outcome = outcome; reply = reply; taken = taken; dropped = dropped; command = command; L = L };
+      wanted = record { earlier = true; outcome = outcome; reply = reply; taken = taken; dropped = dropped; command = command; L = L; count = 0; verdict = Unfinished };
+    }
+
+-- before, the portion's largest number, outcome, reply, count, verdict
+abbrev pub portionRow : List (List ℕ) → ℕ → ℕ → List ℕ → ℕ → Verdict → Row
+portionRow before most outcome reply count verdict =
+    record {
+      before = before;
+      action = checks most;
+      wanted = record { earlier = true; outcome = outcome; reply = reply; taken = 0; dropped = 0; command = 0; L = 0; count = count; verdict = verdict };
     }
 
 abbrev pub table : List Row
@@ -150,8 +187,14 @@ table =
     ∷ row (p3 ∷ fb9 ∷ []) (feeds p6) 0 p6 12 0 0xFC 5
     ∷ row (p3 ∷ fb9 ∷ p6 ∷ []) (feeds p7) 0 p8 23 0 0xFD 16
     ∷ row (p3 ∷ fb9 ∷ p6 ∷ p7 ∷ []) (feeds p7) 0 p8 23 0 0xFD 16
-    ∷ row (p3 ∷ fb9 ∷ p6 ∷ p7 ∷ []) (feeds p1) 0 success 8 0 0xFE 1
-    ∷ row (p3 ∷ fb9 ∷ p6 ∷ p7 ∷ p7 ∷ []) (feeds p1) 0 success 8 0 0xFE 1
+    ∷ row (p3 ∷ fb9 ∷ p6 ∷ p7 ∷ []) (feeds p1) 0 [] 8 0 0xFE 1
+    ∷ row (p3 ∷ fb9 ∷ p6 ∷ p7 ∷ p1 ∷ []) (feeds p1) 12 [] 8 0 0xFE 1
+    ∷ row (p3 ∷ fb9 ∷ p6 ∷ p7 ∷ p1 ∷ []) (feeds p3) 12 [] 10 0 0xFA 3
+    ∷ row (p3 ∷ fb9 ∷ p6 ∷ p7 ∷ p1 ∷ []) (feeds feOther) 4 [] 8 0 0xFE 1
+    ∷ portionRow (p3 ∷ fb9 ∷ p6 ∷ p7 ∷ p1 ∷ []) 9 0 success 9 Right
+    ∷ portionRow (p3 ∷ fb9 ∷ p6 ∷ p7 ∷ p7 ∷ p1 ∷ []) 10 0 success 9 Right
+    ∷ portionRow (p3 ∷ fb9 ∷ p6 ∷ p7 ∷ p1 ∷ []) 8 19 [] 8 Unfinished
+    ∷ portionRow [] 9 18 [] 0 Unfinished
     ∷ row [] reports 0 p9 0 0 0 0
     ∷ row [] (feeds (stray10 ++ p1)) 0 p2 14 6 0xFE 1
     ∷ row [] (feeds (stray11 ++ p1)) 2 [] 7 0 0x56 0

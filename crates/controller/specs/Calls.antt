@@ -1,10 +1,10 @@
 -- One call of feeding or quiet: everything that it gives and leaves, on every outcome. Assumes nothing.
 use mathlib.Core.Path.{_≡_}
 use mathlib.Core.Bool.{Bool, cond, not}
-use mathlib.Core.List.{List}
+use mathlib.Core.List.{List, [], _∷_}
 use Prim.Native.Nat.{ℕ}
 use lib.Dec.{ltb, eqb}
-use lib.ListN.{length}
+use lib.ListN.{length, take}
 use Rattle.frames.specs.declared.reader.Reader.{Reader}
 use Rattle.frames.specs.declared.reader.Fed.{Fed}
 use Rattle.frames.specs.LiveReading.{fed, quieted}
@@ -38,23 +38,23 @@ pub record CallLeaves : Type 0 where
 abbrev pub refusedCall : ℕ → Record → Called
 refusedCall outcome r = record { outcome = outcome; «reply_length» = 0; taken = 0; dropped = 0; command = 0; «data_length» = 0; next = r }
 
--- "A call without a reply .. gives length 0"; only an answered frame has one
-abbrev pub replySizeOf : ℕ → ℕ → List ℕ → List ℕ → ℕ
-replySizeOf outcome command d room = cond (eqb outcome isAnswered) (replySize command d room) 0
+-- "A call without a reply .. gives length 0"
+abbrev pub replySizeOf : Bool → ℕ → List ℕ → List ℕ → ℕ
+replySizeOf replies command d room = cond replies (replySize command d room) 0
 
-abbrev pub replyRoomOf : ℕ → ℕ → List ℕ → List ℕ → List ℕ
-replyRoomOf outcome command d room = cond (eqb outcome isAnswered) (replyRoom command d room) room
+abbrev pub replyRoomOf : Bool → ℕ → List ℕ → List ℕ → List ℕ
+replyRoomOf replies command d room = cond replies (replyRoom command d room) room
 
-pub record ReplyLeft (outcome command : ℕ) (d room : List ℕ) (size : ℕ) (after : List ℕ) : Type 0 where
-  pub gives : size ≡ replySizeOf outcome command d room
-  pub leaves : after ≡ replyRoomOf outcome command d room
+pub record ReplyLeft (replies : Bool) (command : ℕ) (d room : List ℕ) (size : ℕ) (after : List ℕ) : Type 0 where
+  pub gives : size ≡ replySizeOf replies command d room
+  pub leaves : after ≡ replyRoomOf replies command d room
 
 -- the reading ended at a frame, and the session answers it
 abbrev pub answeredCall : Fed → Answer → List ℕ → Called
 answeredCall f a room =
     record {
       outcome = a .outcome;
-      «reply_length» = replySizeOf (a .outcome) (f .frame .command) (a .reply) room;
+      «reply_length» = replySizeOf (a .replies) (f .frame .command) (a .reply) room;
       taken = f .taken;
       dropped = f .dropped;
       command = f .frame .command;
@@ -70,7 +70,7 @@ unfoldable pub finishedCall : Fed → Session → List ℕ → List ℕ → Call
 finishedCall f s room area =
     let a = answered s (f .frame) area in
     cond (f .found)
-    (record { called = answeredCall f a room; room = replyRoomOf (a .outcome) (f .frame .command) (a .reply) room; area = areaAfter s (f .frame) area })
+    (record { called = answeredCall f a room; room = replyRoomOf (a .replies) (f .frame .command) (a .reply) room; area = areaAfter s (f .frame) area })
     (record { called = waitingCall f s; room = room; area = area })
 
 -- a call that reads by `reads`
@@ -86,6 +86,10 @@ fedCall new r room area = calledBy (λ reader. fed reader new) r room area
 -- quiet
 abbrev pub quietedCall : Record → List ℕ → List ℕ → CallLeaves
 quietedCall r room area = calledBy quieted r room area
+
+-- a call's reply, of this length at the front of the room; none of length 0
+abbrev pub replyIn : ℕ → List ℕ → List (List ℕ)
+replyIn n room = cond (eqb n 0) [] (take n room ∷ [])
 
 -- the contract: all of it is the definition's
 pub record Leaves (x : CallLeaves) (c : Called) (room area : List ℕ) : Type 0 where

@@ -1,23 +1,28 @@
--- DEMAND 3: stray bytes cost nothing but themselves. 01, "Demand 3's runs", as one claim about a whole list of calls. Assumes nothing.
+-- DEMAND 3: stray bytes cost nothing but themselves. 01, "Demand 3's runs", as one claim about a whole list of calls. Document 02, K5:
+-- "Demand 3's list gains the portion calls, refused ones included, and its plain run checks in one go, then zeroes the check's own fields;
+-- its runs start with no check running, finish each before the next feeding or quiet call not refused, and have not ended while one runs".
+-- Assumes nothing.
 use mathlib.Core.Path.{_≡_}
 use mathlib.Core.Bool.{Bool, true, false, cond, _&&_, _||_}
 use mathlib.Core.List.{List, [], _∷_, _++_}
 use Prim.Native.Nat.{ℕ, _+_}
 use lib.Dec.{eqb}
-use lib.ListN.{length, take, drop}
+use lib.ListN.{length, drop}
 use Rattle.frames.specs.Frame.{Bytes, Frame, encode}
 use Rattle.frames.specs.Finished.{finished}
 use Rattle.frames.specs.LiveReading.{Call, feeding, quiet, fedBy, due}
 use Rattle.frames.specs.Series.{Series}
 use Rattle.frames.specs.PlainRun.{Plain, plain, Begins}
-use Rattle.commands.specs.Replies.{replyFrame, hasReply}
+use Rattle.commands.specs.Replies.{replyFrame}
 use Rattle.session.specs.declared.session.Session.{Session}
 use Rattle.session.specs.declared.answer.Answer.{Answer}
 use Rattle.session.specs.Outcomes.{isAnswered}
-use Rattle.session.specs.Answering.{answered, areaAfter}
+use Rattle.session.specs.Answering.{areaAfter}
+use Rattle.session.specs.OneGo.{inOneGo}
 use Rattle.controller.specs.declared.record.Record.{Record}
-use Rattle.controller.specs.Records.{unlawfulRecord, holdingNothing}
-use Rattle.controller.specs.Calls.{refusalOf, CallLeaves, calledBy}
+use Rattle.controller.specs.Records.{unlawfulRecord, isChecking, holdingNothing}
+use Rattle.controller.specs.Calls.{refusalOf, CallLeaves, calledBy, replyIn}
+use Rattle.controller.specs.Portions.{PortionLeaves, portionCall, CallKind, lineCall, portion}
 
 -- ---- "The plain run: fed the series' frames alone, one at a time."
 
@@ -26,8 +31,9 @@ pub record State : Type 0 where
   pub session : Session
   pub area : List ℕ
 
+-- "its plain run checks in one go"
 abbrev pub answerTo : State → Frame → Answer
-answerTo s f = answered (s .session) (finished f) (s .area)
+answerTo s f = inOneGo (s .session) (finished f) (s .area)
 
 -- "Step: what "How the session answers" says of that frame, new state and reply"
 abbrev pub stepTo : State → Frame → State
@@ -35,21 +41,21 @@ stepTo s f = record { session = answerTo s f .session; area = areaAfter (s .sess
 
 -- "with outcome 2, 3, 4 or 10 no reply"; F9 has none either
 abbrev pub replyTo : State → Frame → List (List ℕ)
-replyTo s f = cond (eqb (answerTo s f .outcome) isAnswered && hasReply (f .command)) (encode (replyFrame (f .command) (answerTo s f .reply)) ∷ []) []
+replyTo s f = cond (answerTo s f .replies) (encode (replyFrame (f .command) (answerTo s f .reply)) ∷ []) []
 
 abbrev pub plainRun : Record → List ℕ → List Frame → Plain State (List ℕ)
 plainRun r area fs = plain stepTo replyTo (record { session = r .session; area = area }) fs
 
--- ---- "The list: feeding and quiet calls"
+-- ---- "The list: feeding and quiet calls", and portion calls
 
 -- what is lent as the area: the area, or other memory
 pub data Lent : Type 0 where
   own : Lent
   other : List ℕ → Lent
 
--- a call of the list: feeding, offered a first part of the bytes not yet taken, or quiet; its room; and what is lent
+-- a call of the list, its room, and what is lent
 pub record Listed : Type 0 where
-  pub call : Call
+  pub kind : CallKind
   pub room : List ℕ
   pub lends : Lent
 
@@ -68,6 +74,7 @@ pub record RunStart (r : Record) (area : List ℕ) : Type 0 where
   pub lawful : unlawfulRecord r ≡ false
   pub nothing-held : r .reader .count ≡ 0
   pub size : length area ≡ r .session .opened
+  pub no-check : isChecking r ≡ false
 
 abbrev pub start : Record → List ℕ → List ℕ → Place
 start r area bytes = record { at = r; area = area; untaken = bytes; replies = []; dropped = 0; quieted = false }
@@ -81,17 +88,20 @@ abbrev pub areaLeft : Lent → List ℕ → List ℕ → List ℕ
 areaLeft own left area = left
 areaLeft (other memory) left area = area
 
--- what the contracts of `feed` and `quiet` say of the call
-abbrev pub leavesOf : Listed → Place → CallLeaves
-leavesOf c p = calledBy (fedBy (c .call) (p .untaken)) (p .at) (c .room) (lent (c .lends) (p .area))
+-- a check runs
+abbrev pub checking : Place → Bool
+checking p = isChecking (p .at)
+
+-- what the contracts of `feed` and `quiet` say of the call, and that of `portion`
+abbrev pub leavesOf : Call → Listed → Place → CallLeaves
+leavesOf k c p = calledBy (fedBy k (p .untaken)) (p .at) (c .room) (lent (c .lends) (p .area))
+
+abbrev pub portionLeavesOf : ℕ → Listed → Place → PortionLeaves
+portionLeavesOf most c p = portionCall most (p .at) (c .room) (lent (c .lends) (p .area))
 
 -- neither 9 nor 6 nor 5
 abbrev pub accepted : Listed → Place → Bool
 accepted c p = eqb (refusalOf (p .at) (length (c .room)) (length (lent (c .lends) (p .area)))) isAnswered
-
--- the reply at the front of the room
-abbrev pub replyIn : CallLeaves → List (List ℕ)
-replyIn x = cond (eqb (x .called .«reply_length») 0) [] (take (x .called .«reply_length») (x .room) ∷ [])
 
 abbrev pub isQuiet : Call → Bool
 isQuiet (feeding n) = false
@@ -104,13 +114,28 @@ after x lends quieted p =
       at = x .called .next;
       area = areaLeft lends (x .area) (p .area);
       untaken = drop (x .called .taken) (p .untaken);
-      replies = p .replies ++ replyIn x;
+      replies = p .replies ++ replyIn (x .called .«reply_length») (x .room);
       dropped = p .dropped + x .called .dropped;
       quieted = quieted;
     }
 
+abbrev pub afterPortion : PortionLeaves → Place → Place
+afterPortion x p =
+    record {
+      at = x .called .next;
+      area = p .area;
+      untaken = p .untaken;
+      replies = p .replies ++ replyIn (x .called .«reply_length») (x .room);
+      dropped = p .dropped;
+      quieted = p .quieted;
+    }
+
+abbrev pub nextBy : CallKind → Listed → Place → Place
+nextBy (lineCall k) c p = after (leavesOf k c p) (c .lends) (p .quieted || (isQuiet k && accepted c p)) p
+nextBy (portion most) c p = afterPortion (portionLeavesOf most c p) p
+
 abbrev pub next : Listed → Place → Place
-next c p = after (leavesOf c p) (c .lends) (p .quieted || (isQuiet (c .call) && accepted c p)) p
+next c p = nextBy (c .kind) c p
 
 abbrev pub run : List Listed → Place → Place
 run [] p = p
@@ -121,18 +146,24 @@ abbrev pub ofOtherLength : Lent → Place → Type 0
 ofOtherLength own p = Unit
 ofOtherLength (other memory) p = length memory ≡ length (p .area) → ⊥
 
--- "Quiet, unless refused, comes only once every byte is taken"
+-- "Quiet, unless refused, comes only once every byte is taken"; a run finishes each check "before the next feeding or quiet call not
+-- refused"
+abbrev pub dueBy : CallKind → Place → Type 0
+dueBy (lineCall k) p = due k (p .untaken) × (checking p ≡ false)
+dueBy (portion most) p = Unit
+
 abbrev pub Allowed : Listed → Place → Type 0
-Allowed c p = ofOtherLength (c .lends) p × (accepted c p ≡ true → due (c .call) (p .untaken))
+Allowed c p = ofOtherLength (c .lends) p × (accepted c p ≡ true → dueBy (c .kind) p)
 
 abbrev pub AllAllowed : List Listed → Place → Type 0
 AllAllowed [] p = Unit
 AllAllowed (c ∷ cs) p = Allowed c p × AllAllowed cs (next c p)
 
--- "the run has ended once a quiet call that was not refused came and nothing is held"
+-- "the run has ended once a quiet call that was not refused came and nothing is held"; runs "have not ended while one runs"
 pub record Ended (p : Place) : Type 0 where
   pub quiet-came : p .quieted ≡ true
   pub nothing-held : p .at .reader .count ≡ 0
+  pub no-check : checking p ≡ false
 
 -- ---- the claim
 

@@ -1,23 +1,38 @@
--- 01, "Outcome numbers": what a feeding or quiet call leaves, outcome by outcome, and when it gives 9. Assumes nothing.
+-- 01, "Outcome numbers": what a feeding or quiet call leaves, outcome by outcome, and when it gives 9. Document 02, K5: the same of a
+-- portion call. And that a lawful record stays lawful. Assumes nothing.
 use mathlib.Core.Path.{_≡_}
-use mathlib.Core.Bool.{true}
+use mathlib.Core.Bool.{true, false}
 use mathlib.Core.Logic.{_↔_, _⊎_}
-use mathlib.Core.List.{List}
-use Prim.Native.Nat.{ℕ}
+use mathlib.Core.List.{List, [], _∷_}
+use Prim.Native.Nat.{ℕ, _+_, _≤_, _<_}
+use lib.ListN.{length}
+use lib.Seq.{slice}
+use Rattle.frames.specs.Frame.{Bytes, encode}
 use Rattle.frames.specs.LiveReading.{Call, heldBytes, holding, called, fedBy}
-use Rattle.session.specs.Outcomes.{isAnswered, shortRoom, otherArea, isUnlawful}
+use Rattle.commands.specs.Replies.{replyState}
+use Rattle.transfer.specs.declared.check.Check.{Check}
+use Rattle.transfer.specs.declared.board.Board.{Board}
+use Rattle.transfer.specs.declared.check.Verdict.{Verdict}
+use Rattle.transfer.specs.declared.check.Verdict.the-variants.{Unfinished, Right, Wrong}
+use Rattle.transfer.specs.declared.state.Transfer.{Transfer}
+use Rattle.transfer.specs.Transfers.{noCheck, withCheck}
+use Rattle.transfer.specs.Portions.{portionSize, readOn, verdictOf, stepBy}
+use Rattle.session.specs.declared.session.Session.{Session}
+use Rattle.session.specs.Boards.{maxBoards}
+use Rattle.session.specs.Outcomes.{isAnswered, shortRoom, otherArea, isUnlawful, noCheckRuns, isUnfinished}
+use Rattle.session.specs.Checking.{outcomeOf}
 use Rattle.controller.specs.declared.record.Record.{Record}
-use Rattle.controller.specs.declared.call.Called.{Called}
-use Rattle.controller.specs.Records.{unlawfulRecord}
-use Rattle.controller.specs.Calls.{CallLeaves, refusedCall, calledBy}
+use Rattle.controller.specs.Records.{unlawfulRecord, isChecking, openedRecord}
+use Rattle.controller.specs.Calls.{minRoom, refusalOf, CallLeaves, refusedCall, calledBy, replyIn}
+use Rattle.controller.specs.Portions.{PortionLeaves, refusedPortion, portionCall}
 
--- "5, 6, 9: no byte taken, all unchanged"
+-- 5, 6, 9: "no byte taken, all unchanged"
 pub record AllUnchanged (r : Record) (room area : List ℕ) (x : CallLeaves) : Type 0 where
   pub gives : x .called ≡ refusedCall (x .called .outcome) r
   pub same-room : x .room ≡ room
   pub same-area : x .area ≡ area
 
--- "1: no reply; record differs in held bytes only", and "2, 3, 4, 10: frame used up, no reply, session same"
+-- 1: "no reply; record differs in held bytes only"; 2, 3, 4, 10, and 12 (document 02, K5): "frame used up, no reply, session same"
 pub record SessionUnchanged (r : Record) (room area : List ℕ) (x : CallLeaves) : Type 0 where
   pub no-reply : x .called .«reply_length» ≡ 0
   pub same-session : x .called .next .session ≡ r .session
@@ -39,3 +54,71 @@ pub record OutcomesLeave (c : Call) (rest : List ℕ) (r : Record) (room area : 
 
 abbrev pub Leaving : Type 0
 Leaving = (c : Call) (rest : List ℕ) (r : Record) (room area : List ℕ) → OutcomesLeave c rest r room area (calledBy (fedBy c rest) r room area)
+
+-- ---- a portion call
+
+abbrev pub IsPortionRefusal : ℕ → Type 0
+IsPortionRefusal n = IsRefusal n ⊎ (n ≡ noCheckRuns)
+
+-- the session with another check
+abbrev pub checkingOn : Session → Check → Session
+checkingOn s c = record { boards = s .boards; count = s .count; opened = s .opened; transfer = withCheck (s .transfer) c }
+
+-- the frame FE, channel, state
+abbrev pub stateFrame : ℕ → ℕ → List ℕ
+stateFrame channel state = encode (record { version = 0x00; command = 0xFE; payload = replyState channel state })
+
+-- "CRC-32 .. differs: 03 .. Otherwise 00"; nobody asks before the verdict
+abbrev pub verdictState : Verdict → ℕ
+verdictState Unfinished = 3
+verdictState Right = 0
+verdictState Wrong = 3
+
+-- a portion call that is not refused, on a running check of the transfer t
+pub record Counted (most : ℕ) (t : Transfer) (area : List ℕ) (x : PortionLeaves) : Type 0 where
+  -- "the smaller of the largest number and what is left unread": as many bytes as the definition's check reads on by
+  pub amount : x .called .count ≡ portionSize t most
+  pub bytes : x .called .count ≡ length (slice (t .check .read) (t .check .read + x .called .count) area)
+  pub says : x .called .verdict ≡ verdictOf t (readOn (t .check) (x .called .count) area)
+  -- what becomes of the transfer, "FE's changes" included
+  pub becomes : x .called .next .session .transfer ≡ stepBy (x .called .verdict) t (readOn (t .check) (x .called .count) area) .transfer
+  -- 0 with the verdict, "before that it is 19"
+  pub number : x .called .outcome ≡ outcomeOf (x .called .verdict)
+
+pub record PortionOutcomes (most : ℕ) (r : Record) (room area : List ℕ) (x : PortionLeaves) : Type 0 where
+  -- "refuse 9, 6, 5, then 18 when no check runs": each where those before it are not given
+  pub nine : (x .called .outcome ≡ isUnlawful) ↔ (unlawfulRecord r ≡ true)
+  pub six : unlawfulRecord r ≡ false → (x .called .outcome ≡ otherArea) ↔ (length area ≡ r .session .opened → ⊥)
+  pub five : unlawfulRecord r ≡ false → length area ≡ r .session .opened → (x .called .outcome ≡ shortRoom) ↔ (length room < minRoom)
+  pub eighteen : unlawfulRecord r ≡ false → length area ≡ r .session .opened → minRoom ≤ length room
+      → (x .called .outcome ≡ noCheckRuns) ↔ (isChecking r ≡ false)
+  -- "count 0, unfinished, nothing changed"
+  pub refused : IsPortionRefusal (x .called .outcome) → x ≡ record { called = refusedPortion (x .called .outcome) r; room = room }
+  -- 19: no reply, and the check's own fields alone change
+  pub unfinished : x .called .outcome ≡ isUnfinished
+      → (x .called .«reply_length» ≡ 0) × ((x .room ≡ room)
+      × (x .called .next ≡ record { reader = r .reader; session = checkingOn (r .session) (x .called .next .session .transfer .check) }))
+  -- "The call that reads the last byte gives the verdict and FE's reply .. and zeroes the check's own fields (outcome 0)"
+  pub finished : x .called .outcome ≡ isAnswered
+      → (x .called .next .session .transfer .check ≡ noCheck)
+      × (replyIn (x .called .«reply_length») (x .room) ≡ stateFrame (r .session .transfer .channel) (verdictState (x .called .verdict)) ∷ [])
+  -- "reports how many image bytes it read in this call"
+  pub counted : refusalOf r (length room) (length area) ≡ isAnswered → isChecking r ≡ true
+      → Counted most (r .session .transfer) area x
+  -- "Portion calls leave what stands past the held bytes", and the held ones
+  pub same-reader : x .called .next .reader ≡ r .reader
+
+abbrev pub PortionLeaving : Type 0
+PortionLeaving = (most : ℕ) (r : Record) (room area : List ℕ) → PortionOutcomes most r room area (portionCall most r room area)
+
+-- ---- a lawful record stays lawful
+
+-- what is held and fed are bytes, so that a packet's number is below 65,536
+pub record LawfulKept : Type 0 where
+  pub by-opening : (bs : List Board) (n area : ℕ) → length bs ≡ maxBoards → openedRecord bs n area .outcome ≡ isAnswered
+      → unlawfulRecord (openedRecord bs n area .next) ≡ false
+  pub by-reading : (c : Call) (rest : List ℕ) (r : Record) (room area : List ℕ) → Bytes (heldBytes (r .reader)) → Bytes rest
+      → unlawfulRecord r ≡ false
+      → unlawfulRecord (calledBy (fedBy c rest) r room area .called .next) ≡ false
+  pub by-portion : (most : ℕ) (r : Record) (room area : List ℕ) → unlawfulRecord r ≡ false
+      → unlawfulRecord (portionCall most r room area .called .next) ≡ false

@@ -1,8 +1,10 @@
 -- The definitions that the contracts of `controller` cite, and its claims.
 pub mod Records
 pub mod Calls
+pub mod Portions
 pub mod OutwardReport
 pub mod Leaving
+pub mod CheckCourse
 pub mod EndRequest
 pub mod Demand3
 pub mod Bench

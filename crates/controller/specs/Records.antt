@@ -16,6 +16,10 @@ use Rattle.controller.specs.declared.open.Opened.{Opened}
 unfoldable pub unlawfulRecord : Record → Bool
 unlawfulRecord r = ltb maxFrame (r .reader .count) || unlawful (r .session)
 
+-- document 02, K5: an end check runs
+abbrev pub isChecking : Record → Bool
+isChecking r = r .session .transfer .check .running
+
 -- a record that holds nothing, with zeros in the held places
 abbrev pub holdingNothing : Session → Record
 holdingNothing s = record { reader = holding []; session = s }

@@ -53,7 +53,7 @@ impl Record {
 }
 
 // 9, 6, 5 in this order, or 0 where the call is not refused.
-fn refusal(r: Record, room: usize, area: usize) -> u8
+pub(crate) fn refusal(r: Record, room: usize, area: usize) -> u8
     ensures { λ k. ⌜ k ≡ refusalOf r room area ⌝ }
 {
     if r.unlawful() {
@@ -94,7 +94,7 @@ fn finish(f: Fed, session: Session, room: &mut [u8], area: &mut [u8]) -> Called
         let a = session.answer(frame, area);
         let next = a.session;
         let data = a.reply;
-        let reply_length = write_reply(a.outcome, frame.command, data, room);
+        let reply_length = write_reply(a.replies, frame.command, data, room);
         return Called {
             outcome: a.outcome,
             reply_length,
@@ -119,12 +119,12 @@ fn finish(f: Fed, session: Session, room: &mut [u8], area: &mut [u8]) -> Called
     }
 }
 
-// Only an answered frame has a reply.
-fn write_reply(outcome: u8, command: u8, data: [u8; 26], room: &mut [u8]) -> usize
-    ensures { λ r. ⌜ ReplyLeft outcome command «data» (now (room .entry)) r (now (room .exit)) ⌝ }
+// Writes the reply to the front of the room, where there is one.
+pub(crate) fn write_reply(replies: bool, command: u8, data: [u8; 26], room: &mut [u8]) -> usize
+    ensures { λ r. ⌜ ReplyLeft replies command «data» (now (room .entry)) r (now (room .exit)) ⌝ }
 {
-    if outcome != outcome::ANSWERED {
-        return 0;
+    if replies {
+        return reply::write(command, data, room);
     }
-    reply::write(command, data, room)
+    0
 }

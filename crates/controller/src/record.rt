@@ -3,7 +3,7 @@ use frames::MAX_FRAME;
 use frames::reader::Reader;
 use session::session::Session;
 ghost use mathlib.Core.Path.{_≡_};
-ghost use Rattle.controller.specs.Records.{unlawfulRecord};
+ghost use Rattle.controller.specs.Records.{unlawfulRecord, isChecking};
 
 pub struct Record {
     pub reader: Reader,
@@ -21,5 +21,12 @@ impl Record {
             return true;
         }
         session.unlawful()
+    }
+
+    // Whether an end check runs: portions of it are due.
+    pub fn is_checking(self) -> bool
+        ensures { λ r. ⌜ r ≡ isChecking self ⌝ }
+    {
+        self.session.transfer.check.running
     }
 }

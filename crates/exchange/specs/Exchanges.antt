@@ -28,6 +28,10 @@ openController channel = freshRecord (board channel ∷ replicate 9 noBoard) 1 a
 abbrev pub openSender : ℕ → ℕ → ℕ → Sender
 openSender channel size n = freshSender channel (zeros 8) (1 ∷ 0 ∷ 3 ∷ []) (zeros 16) size n
 
+-- the most bytes of the image that the controller reads back in a turn
+abbrev pub mostRead : ℕ
+mostRead = 8192
+
 -- the frame's bytes
 abbrev pub textOf : Frame → List ℕ
 textOf f = take (f .length) (f .bytes)

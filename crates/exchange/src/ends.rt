@@ -1,6 +1,7 @@
-// The two ends of the link: opened, and called with frames.
+// The two ends of the link: opened and called.
 use controller::call::Called;
 use controller::call::MIN_ROOM;
+use controller::portion::Portioned;
 use controller::record::Record;
 use frames::MAX_FRAME;
 use link::frame::Frame;
@@ -14,10 +15,14 @@ ghost use Prim.Native.Nat.{_≤_, _<_};
 ghost use lib.ListN.{length};
 ghost use Rattle.sender.specs.Replies.{replied};
 ghost use Rattle.controller.specs.Calls.{fedCall, Leaves};
-ghost use Rattle.exchange.specs.Exchanges.{openController, openSender, requestFrame, replyFrame, textOf};
+ghost use Rattle.controller.specs.Portions.{portionCall, PortionLeft};
+ghost use Rattle.exchange.specs.Exchanges.{openController, openSender, requestFrame, replyFrame, textOf, mostRead};
 
 // The length of the controller's area: as `io::large_buffer` gives.
 pub const AREA: usize = 65536;
+
+// The most bytes of the image that the controller reads back in a turn.
+const PORTION: usize = 8192;
 
 // A controller with one board, of this channel.
 pub(crate) fn open_controller(channel: u8) -> Record
@@ -100,4 +105,11 @@ pub(crate) fn feed(
 {
     let bytes = frame.bytes;
     record.feed(front(&bytes, frame.length), room, area)
+}
+
+// The controller goes on with its end check.
+pub(crate) fn check(record: Record, room: &mut [u8; MIN_ROOM], area: &[u8; AREA]) -> Portioned
+    ensures { λ p. ⌜ PortionLeft (portionCall mostRead «record» (now (room .entry)) (now (area .entry))) p (now (room .exit)) ⌝ }
+{
+    record.portion(PORTION, room, area)
 }

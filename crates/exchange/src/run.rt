@@ -61,7 +61,7 @@ impl Run {
         self.is_ended
     }
 
-    // A silence, or an arrival.
+    // A portion of the controller's end check, if one runs; else a silence, or an arrival.
     pub(crate) fn turn(
         mut self,
         image: &[u8],
@@ -70,6 +70,10 @@ impl Run {
         area: &mut [u8; AREA],
         out: &mut [u8; SIZE],
     ) -> Run {
+        let record = self.record;
+        if record.is_checking() {
+            return self.check(image, letters, memory, area, out);
+        }
         let script = self.script;
         if script.next(letters) == script::SILENCE {
             self.script = script.after();
@@ -167,6 +171,26 @@ impl Run {
             return run;
         }
         run.send(ends::reply(room, c.reply_length), letters, memory, out)
+    }
+
+    // With the verdict comes the reply to the end request.
+    fn check(
+        self,
+        image: &[u8],
+        letters: &[u8],
+        memory: &mut [u8; MEMORY],
+        area: &[u8; AREA],
+        out: &mut [u8; SIZE],
+    ) -> Run {
+        let mut room = [0u8; MIN_ROOM];
+        let record = self.record;
+        let p = ends::check(record, &mut room, area);
+        let next = p.next;
+        let run = self.with_record(next, image, area, &mut *out);
+        if p.reply_length == 0 {
+            return run;
+        }
+        run.send(ends::reply(room, p.reply_length), letters, memory, out)
     }
 
     // The sender's request is sent.

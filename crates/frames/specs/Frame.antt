@@ -1,8 +1,8 @@
 -- 01, "The frame": what the bytes of a frame are.
 --
 -- "Bytes: 55, AA, version, command, data length L in two bytes, L data bytes, one sum byte. The sum is all bytes before it, added
--- modulo 256. A frame has 7 + L bytes. L is 0 to 519; 55 AA followed by a larger L is no frame. Version and command may be anything
--- at this level. All numbers are high byte first."
+-- modulo 256 .. A frame has 7 + L bytes. L is 0 to 519; 55 AA followed by a larger L is no frame. Version and command may be anything
+-- at this level. All numbers are high byte first".
 -- Assumes nothing.
 use mathlib.Core.Path.{_≡_}
 use mathlib.Core.List.{List, [], _∷_, _++_}

@@ -37,7 +37,7 @@ isWhole Whole = true
 isWhole Dead = false
 isWhole Open = false
 
--- some bytes behind s make a frame begin at its first byte: "can still become a frame"
+-- some bytes behind s make a frame begin at its first byte: it can still become one
 pub record Completable (s : List ℕ) : Type 0 where
   pub tail : List ℕ
   pub bytes : Bytes tail

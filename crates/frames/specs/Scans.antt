@@ -41,11 +41,12 @@ pub record Missing (v : List ℕ) (from to more : ℕ) : Type 0 where
   pub some : 0 < more
   pub undecided : (t : ℕ) → to ≤ t → t < to + more → t ≤ length v → frontOf (slice from t v) ≡ Open
 
--- By those of its first two bytes that stand below `to`, no frame begins at place i of v.
+-- 01, "The frame": "Bytes: 55, AA, ..". By those of the two that stand below `to`, no frame begins at place i of v.
 abbrev pub Stray : List ℕ → ℕ → ℕ → Type 0
 Stray v to i = getD v i 0 ≡ head1 → (i + 1 < to) × (getD v (i + 1) 0 ≡ head2 → ⊥)
 
--- The places from `from` up to r, which is at most `to`. What stands at r is left open: only time depends on it.
+-- 01, "Live reading": each of these "can no longer become a frame": the places from `from` up to r, which is at most `to`. What stands
+-- at r is left open: only time depends on it.
 pub record Headless (v : List ℕ) (from to r : ℕ) : Type 0 where
   pub ordered : from ≤ r
   pub within : r ≤ to

@@ -1,14 +1,18 @@
 -- From a call's contract to a turn's. Assumes nothing.
-use mathlib.Core.Path.{_≡_, ap, subst, _∙_}
+use mathlib.Core.Path.{_≡_, sym, ap, subst, _∙_}
 use mathlib.Core.List.{List}
 use Prim.Native.Nat.{ℕ, _-_, min}
 use lib.ListN.{length, take, length-drop, length-take}
 use lib.Seq.{slice}
+use Rattle.transfer.specs.declared.check.Verdict.the-variants.{Unfinished}
 use Rattle.controller.specs.declared.call.Called.{Called}
+use Rattle.controller.specs.declared.portion.Portioned.{Portioned}
 use Rattle.controller.specs.Calls.{CallLeaves, Leaves}
+use Rattle.controller.specs.Portions.{PortionLeaves, PortionLeft}
+use Rattle.text.specs.declared.output.Output.{Output}
 use Rattle.replay.specs.declared.run.Run.{Run}
 use Rattle.replay.specs.declared.run.Stage.{Stage}
-use Rattle.replay.specs.Runs.{Follows, Passes, stageQuiet}
+use Rattle.replay.specs.Runs.{Follows, Passes, stageQuiet, placeBehind, withRecord, FrameAdded, ChecksOn}
 
 -- what is left in the input buffer: it may have less than is said to be in it
 pub length-left : (at end : ℕ) (input : List ℕ) → length (slice at end input) ≡ min end (length input) - at
@@ -28,3 +32,28 @@ module _ {run r : Run} {k : Called} {room buffer after area : List ℕ} {stage :
       → Passes run x buffer (stageQuiet (x .called .next)) r after area
   passes-quiet {x} e l f =
       subst (λ (s : Stage). Passes run x buffer s r after area) (e ∙ ap (λ (c : Called). stageQuiet (c .next)) (l .gives)) (passes l f)
+
+-- ---- a portion of an end check
+
+module _ {run r : Run} {p : Portioned} {room buffer after : List ℕ} {x : PortionLeaves} (left : PortionLeft x p room) where
+  -- what holds of what the call gave holds of what its definition says
+  as-called : ChecksOn run (record { called = p; room = room }) buffer r after → ChecksOn run x buffer r after
+  as-called f =
+      subst (λ (s : List ℕ). ChecksOn run (record { called = x .called; room = s }) buffer r after) (left .leaves-room)
+      (subst (λ (k : Portioned). ChecksOn run (record { called = k; room = room }) buffer r after) (left .gives) f)
+
+  pub checks-on : p .verdict ≡ Unfinished → r ≡ withRecord run (p .next) (run .place) (run .lines) → after ≡ buffer → ChecksOn run x buffer r after
+  checks-on e is same = as-called (record { goes-on = λ _. (is, same); ends = λ other. absurd (other e) })
+
+  pub check-ends :
+      {place : ℕ} {lines : Output} → (p .verdict ≡ Unfinished → ⊥) → r ≡ withRecord run (p .next) place lines → place ≡ placeBehind (run .place) 1
+      → FrameAdded (run .place) 0xFE (p .outcome) (take (p .«reply_length») room) (run .lines) buffer lines after → ChecksOn run x buffer r after
+  check-ends {place} {lines} other is passed line =
+      as-called
+      (record {
+        goes-on = λ e. absurd (other e);
+        ends = λ _. (
+          is ∙ ap (λ (n : ℕ). withRecord run (p .next) n lines) passed ∙ ap (λ (l : Output). withRecord run (p .next) (placeBehind (run .place) 1) l) (sym (ap (λ (q : Run). q .lines) is)),
+          subst (λ (l : Output). FrameAdded (run .place) 0xFE (p .outcome) (take (p .«reply_length») room) (run .lines) buffer l after) (sym (ap (λ (q : Run). q .lines) is)) line,
+        );
+      })

@@ -29,7 +29,7 @@ pub record FrameText (place command outcome : ℕ) (reply text : List ℕ) : Typ
   pub is-outcome : Decimal outcome outcomeText
   pub is : text ≡ placeText ++ (space ++ (hexByte command ++ (space ++ (outcomeText ++ (space ++ (replyText reply ++ newline))))))
 
--- the text of the last line: "end dropped N"
+-- the text of the last line, as P10's `end dropped 6`
 pub record EndText (dropped : ℕ) (text : List ℕ) : Type 0 where
   pub droppedText : List ℕ
   pub is-dropped : Decimal dropped droppedText

@@ -1,8 +1,9 @@
--- Demand 2's "exactly when", at the session. Assumes nothing.
+-- Demand 2's "exactly when", at the session, with the check made in one go. Assumes nothing.
 use mathlib.Core.Path.{_≡_, refl, sym, ap, ap₂, _∙_}
 use mathlib.Core.Bool.{Bool, true, false, cond, not, _||_}
+use mathlib.Core.Logic.{_⊎_, inl, inr}
 use mathlib.Core.List.{List}
-use Prim.Native.Nat.{ℕ, _<_}
+use Prim.Native.Nat.{ℕ}
 use native.Mathlib.Omega.{arith}
 use borrow.Author.Tests.{eqb-true, eq-eqb, lt-ltb, not-false}
 use lib.Dec.{ltb, eqb}
@@ -10,131 +11,222 @@ use lib.ListN.{length, getD, take}
 use Rattle.crc.specs.Crc.{checksum, crc32}
 use Rattle.frames.specs.declared.finished.FinishedFrame.{FinishedFrame}
 use Rattle.frames.specs.Finished.{padded}
-use Rattle.commands.specs.declared.table.Header.{Header}
+use Rattle.frames.proofs.Choices.{neither, of-both}
 use Rattle.commands.specs.declared.table.Header.the-variants.{Right}
 use Rattle.commands.specs.Search.{find}
 use Rattle.commands.specs.Table.{table, rowAt, placeOf as placeOfCommand, headerOf}
-use Rattle.commands.specs.Requests.{channelOf}
 use Rattle.commands.specs.Replies.{maxReply, replyState}
-use Rattle.transfer.specs.declared.board.Board.{Board}
 use Rattle.transfer.specs.declared.state.Transfer.{Transfer}
 use Rattle.transfer.specs.declared.state.Step.{Step}
 use Rattle.transfer.specs.Phases.{receivingOrDone}
-use Rattle.transfer.specs.Transfers.{otherChannel}
-use Rattle.transfer.specs.FE.{rightCrc, answerFE}
-use Rattle.frames.proofs.Choices.{neither}
+use Rattle.transfer.specs.Transfers.{startedCheck, withCheck, otherChannel, replied, noted}
+use Rattle.transfer.specs.FE.{reachesCrc, rightCrc, answerFE, endedFE}
 use Rattle.transfer.proofs.PhaseLaws.{image-busy, ending-image}
 use Rattle.session.specs.declared.session.Session.{Session}
 use Rattle.session.specs.declared.answer.Answer.{Answer}
-use Rattle.session.specs.Outcomes.{isAnswered}
-use Rattle.session.specs.Boards.{pastBoard, placeOf}
+use Rattle.session.specs.Boards.{placeOf}
 use Rattle.session.specs.Lawful.{unlawful}
-use Rattle.session.specs.Answering.{unchanged, stepped, placeFor, stepOf, routed, byHeader, headerOfFrame, judged, answered}
-use Rattle.session.specs.EndRequest.{IsEndRequest, Complete, EndRequest}
+use Rattle.session.specs.Answering.{unchanged, stepped, placeFor, stepOf, areaOf, routed, routedArea, headerOfFrame, judged, judgedArea, answered, areaAfter}
+use Rattle.session.specs.OneGo.{inOneGo}
+use Rattle.session.specs.EndRequest.{IsEndRequest, Complete, SuccessIn, EndRequest}
 use Rattle.session.proofs.Lawfuls.{lawful}
 
--- ---- the transfer's answer
+-- ---- the transfer's part
+
+-- an end request does not get as far as the CRC: by phase or channel, or by the stored length
+abbrev early : Transfer → ℕ → Bool
+early t channel = not (receivingOrDone (t .phase)) || otherChannel t channel
+
+abbrev short : Transfer → Bool
+short t = not (eqb (t .stored) (t .image .announced))
+
+-- FE with its check in one go
+unfoldable goFE : Transfer → ℕ → List ℕ → Step
+goFE t channel area =
+    cond (early t channel) (replied t (replyState channel 3)) (cond (short t) (replied t (replyState channel 1)) (endedFE t (rightCrc t area)))
+
+-- another state is another reply
+not-success : (m k n : ℕ) → padded maxReply (replyState m n) ≡ padded maxReply (replyState k 0) → n ≡ 0
+unfolding replyState
+not-success m k n e = ap (λ (d : List ℕ). getD d 1 0) e
 
 module _ (t : Transfer) (channel : ℕ) (area : List ℕ) where
-  complete-success : Complete t channel area → answerFE t channel area .reply ≡ padded maxReply (replyState channel 0)
-  unfolding answerFE
+  complete-late : Complete t channel area → early t channel ≡ false
+  complete-late c = ap₂ _||_ (ap not (c .open-or-accepted)) (ap not (eq-eqb channel (t .channel) (c .here)))
+
+  complete-full : Complete t channel area → short t ≡ false
+  complete-full c = ap not (eq-eqb (t .stored) (t .image .announced) (c .all-stored))
+
+  complete-success : Complete t channel area → goFE t channel area .reply ≡ padded maxReply (replyState channel 0)
+  unfolding goFE endedFE
   complete-success c =
-      let there : (not (receivingOrDone (t .phase)) || otherChannel t channel) ≡ false = ap₂ _||_ (ap not (c .open-or-accepted)) (ap not (eq-eqb channel (t .channel) (c .here))) in
-      simp (there, eq-eqb (t .stored) (t .image .announced) (c .all-stored), eq-eqb _ (t .image .crc) (c .right))
+      simp (complete-late c, complete-full c, eq-eqb _ (t .image .crc) (c .right))
+      (ap (λ (k : ℕ). padded maxReply (replyState k 0)) (sym (c .here)))
 
-  -- another state is another reply
-  not-success : (n : ℕ) → padded maxReply (replyState channel n) ≡ padded maxReply (replyState channel 0) → n ≡ 0
-  unfolding replyState
-  not-success n e = ap (λ (d : List ℕ). getD d 1 0) e
-
-  success-complete : answerFE t channel area .reply ≡ padded maxReply (replyState channel 0) → Complete t channel area
-  unfolding answerFE
-  success-complete e =
-      go (not (receivingOrDone (t .phase)) || otherChannel t channel) (eqb (t .stored) (t .image .announced)) (rightCrc t area) refl refl refl
+  success-complete : goFE t channel area .reply ≡ padded maxReply (replyState channel 0) → Complete t channel area
+  unfolding goFE endedFE
+  success-complete e = go (early t channel) (short t) (rightCrc t area) refl refl refl
     where
-      go : (a b c : Bool) → (not (receivingOrDone (t .phase)) || otherChannel t channel) ≡ a → eqb (t .stored) (t .image .announced) ≡ b → rightCrc t area ≡ c → Complete t channel area
-      go true b c ea eb ec = absurd (let z = not-success 3 (simp ea at e) in omega arith)
-      go false false c ea eb ec = absurd (let z = not-success 1 (simp (ea, eb) at e) in omega arith)
-      go false true false ea eb ec = absurd (let z = not-success 3 (simp (ea, eb, ec) at e) in omega arith)
-      go false true true ea eb ec =
+      go : (a b c : Bool) → early t channel ≡ a → short t ≡ b → rightCrc t area ≡ c → Complete t channel area
+      go true b c ea eb ec = absurd (let z = not-success channel channel 3 (simp ea at e) in omega arith)
+      go false true c ea eb ec = absurd (let z = not-success channel channel 1 (simp (ea, eb) at e) in omega arith)
+      go false false false ea eb ec = absurd (let z = not-success (t .channel) channel 3 (simp (ea, eb, ec) at e) in omega arith)
+      go false false true ea eb ec =
           let n = neither (not (receivingOrDone (t .phase))) _ ea in
           record {
             open-or-accepted = not-false _ (n .0);
             here = eqb-true channel (t .channel) (not-false _ (n .1));
-            all-stored = eqb-true (t .stored) (t .image .announced) eb;
+            all-stored = eqb-true (t .stored) (t .image .announced) (not-false _ eb);
             right = eqb-true _ (t .image .crc) ec;
           }
 
-  fe-answered : answerFE t channel area .answered ≡ true
-  unfolding answerFE
-  fe-answered =
-      go (not (receivingOrDone (t .phase)) || otherChannel t channel) (eqb (t .stored) (t .image .announced)) (rightCrc t area) refl refl refl
+  go-answered : (goFE t channel area .answered ≡ true) × (goFE t channel area .replies ≡ true)
+  unfolding goFE endedFE
+  go-answered = go (early t channel) (short t) (rightCrc t area) refl refl refl
     where
-      go : (a b c : Bool) → (not (receivingOrDone (t .phase)) || otherChannel t channel) ≡ a → eqb (t .stored) (t .image .announced) ≡ b → rightCrc t area ≡ c → answerFE t channel area .answered ≡ true
-      go true b c ea eb ec = simp ea
-      go false false c ea eb ec = simp (ea, eb)
-      go false true false ea eb ec = simp (ea, eb, ec)
-      go false true true ea eb ec = simp (ea, eb, ec)
-
-  -- FE's reply is the channel and a state
-  pub fe-short : answerFE t channel area .reply ≡ padded maxReply (replyState channel (getD (answerFE t channel area .reply) 1 0))
-  unfolding answerFE replyState
-  fe-short =
-      go (not (receivingOrDone (t .phase)) || otherChannel t channel) (eqb (t .stored) (t .image .announced)) (rightCrc t area) refl refl refl
-    where
-      go : (a b c : Bool) → (not (receivingOrDone (t .phase)) || otherChannel t channel) ≡ a → eqb (t .stored) (t .image .announced) ≡ b → rightCrc t area ≡ c
-          → answerFE t channel area .reply ≡ padded maxReply (replyState channel (getD (answerFE t channel area .reply) 1 0))
-      go true b c ea eb ec = simp ea
-      go false false c ea eb ec = simp (ea, eb)
-      go false true false ea eb ec = simp (ea, eb, ec)
-      go false true true ea eb ec = simp (ea, eb, ec)
+      go : (a b c : Bool) → early t channel ≡ a → short t ≡ b → rightCrc t area ≡ c → (goFE t channel area .answered ≡ true) × (goFE t channel area .replies ≡ true)
+      go true b c ea eb ec = (simp ea, simp ea)
+      go false true c ea eb ec = (simp (ea, eb), simp (ea, eb))
+      go false false false ea eb ec = (simp (ea, eb, ec), simp (ea, eb, ec))
+      go false false true ea eb ec = (simp (ea, eb, ec), simp (ea, eb, ec))
 
 -- ---- the session's
 
-fe-header : (f : FinishedFrame) (channel : ℕ) → IsEndRequest f channel → headerOfFrame f ≡ Right
+pub fe-header : (f : FinishedFrame) (channel : ℕ) → IsEndRequest f channel → headerOfFrame f ≡ Right
 unfolding headerOf placeOfCommand rowAt table find
 fe-header f channel r = simp (r .command, r .version, r .size)
 
 module _ (s : Session) (f : FinishedFrame) (channel : ℕ) (area : List ℕ) (e : unlawful s ≡ false) (size : length area ≡ s .opened) (r : IsEndRequest f channel) where
-  -- past 9, 6, 2 and 3
-  pub fe-routed : answered s f area ≡ cond (ltb (placeFor s f) (s .count)) (stepped s (answerFE (s .transfer) channel area)) (unchanged 4 s)
-  unfolding answered judged routed stepOf
-  fe-routed =
-      let header = fe-header f channel r in
-      rw (e, eq-eqb (length area) (s .opened) size, header) (simp (r .command, r .for))
+  abbrev t : Transfer
+  t = s .transfer
 
-  forwards : (answered s f area .outcome ≡ isAnswered) × (answered s f area .reply ≡ padded maxReply (replyState channel 0)) → Complete (s .transfer) channel area
-  forwards p = go (ltb (placeFor s f) (s .count)) refl
+  abbrev listed : Bool
+  listed = ltb (placeFor s f) (s .count)
+
+  -- the session's channel is listed
+  own-listed : receivingOrDone (t .phase) ≡ true → channel ≡ t .channel → listed ≡ true
+  own-listed ending here =
+      let own = lawful s e .listed (image-busy (t .phase) (ending-image (t .phase) ending)) in
+      let place : placeFor s f ≡ placeOf (s .boards) (s .count) (t .channel) = ap (placeOf (s .boards) (s .count)) (r .for ∙ here) in
+      lt-ltb (placeFor s f) (s .count) (omega arith)
+
+  -- so is that of a transfer that is complete
+  complete-listed : Complete t channel area → listed ≡ true
+  complete-listed c = own-listed (c .open-or-accepted) (c .here)
+
+  -- an end request writes nothing into the area
+  pub fe-area : areaAfter s f area ≡ area
+  unfolding areaAfter judgedArea routedArea areaOf
+  fe-area = rw (e, eq-eqb (length area) (s .opened) size, fe-header f channel r) (simp (r .command) (both (ltb (placeFor s f) (s .count)) (t .check .running)))
     where
-      go : (b : Bool) → ltb (placeFor s f) (s .count) ≡ b → Complete (s .transfer) channel area
-      go true eb =
-          let a = fe-routed ∙ ap (λ (x : Bool). cond x (stepped s (answerFE (s .transfer) channel area)) (unchanged 4 s)) eb in
-          success-complete (s .transfer) channel area (sym (ap (λ (x : Answer). x .reply) a) ∙ p .1)
-      go false eb =
-          let a = fe-routed ∙ ap (λ (x : Bool). cond x (stepped s (answerFE (s .transfer) channel area)) (unchanged 4 s)) eb in
-          absurd (let z = sym (ap (λ (x : Answer). x .outcome) a) ∙ p .0 in omega arith)
+      both : (a b : Bool) → cond a (cond b area area) area ≡ area
+      both true true = refl
+      both true false = refl
+      both false b = refl
 
-  backwards : Complete (s .transfer) channel area → (answered s f area .outcome ≡ isAnswered) × (answered s f area .reply ≡ padded maxReply (replyState channel 0))
-  backwards c =
-      let own = lawful s e .listed (image-busy (s .transfer .phase) (ending-image (s .transfer .phase) (c .open-or-accepted))) in
-      let place : placeFor s f ≡ placeOf (s .boards) (s .count) (s .transfer .channel) = ap (placeOf (s .boards) (s .count)) (r .for ∙ c .here) in
-      let listed = lt-ltb (placeFor s f) (s .count) (omega arith) in
-      let a = fe-routed ∙ ap (λ (x : Bool). cond x (stepped s (answerFE (s .transfer) channel area)) (unchanged 4 s)) listed in (
-        ap (λ (x : Answer). x .outcome) a ∙ ap (λ (b : Bool). cond b 0 10) (fe-answered (s .transfer) channel area),
-        ap (λ (x : Answer). x .reply) a ∙ complete-success (s .transfer) channel area c,
-      )
+  -- one for an unlisted channel is not complete
+  pub unlisted-incomplete : listed ≡ false → Complete t channel area → ⊥
+  unlisted-incomplete unlisted c = let z = sym (complete-listed c) ∙ unlisted in let y : _≡_ {A = ℕ} 0 1 = cc in omega arith
 
-  -- an answered end request replies with the channel and a state
-  pub fe-reply : answered s f area .outcome ≡ isAnswered → answered s f area .reply ≡ padded maxReply (replyState channel (getD (answered s f area .reply) 1 0))
-  fe-reply z = go (ltb (placeFor s f) (s .count)) refl
-    where
-      go : (b : Bool) → ltb (placeFor s f) (s .count) ≡ b → answered s f area .reply ≡ padded maxReply (replyState channel (getD (answered s f area .reply) 1 0))
-      go true eb =
-          let a = ap (λ (x : Answer). x .reply) (fe-routed ∙ ap (λ (x : Bool). cond x (stepped s (answerFE (s .transfer) channel area)) (unchanged 4 s)) eb) in
-          a ∙ fe-short (s .transfer) channel area ∙ ap (λ (d : List ℕ). padded maxReply (replyState channel (getD d 1 0))) (sym a)
-      go false eb =
-          let a = fe-routed ∙ ap (λ (x : Bool). cond x (stepped s (answerFE (s .transfer) channel area)) (unchanged 4 s)) eb in
-          absurd (let y = sym (ap (λ (x : Answer). x .outcome) a) ∙ z in omega arith)
+  -- while none runs
+  module _ (still : t .check .running ≡ false) where
+    -- past 9, 6, 2, 3 and 12
+    fe-routed : answered s f area ≡ cond listed (stepped s (answerFE t channel)) (unchanged 4 s)
+    unfolding answered judged routed stepOf
+    fe-routed =
+        let header = fe-header f channel r in
+        rw (e, eq-eqb (length area) (s .opened) size, header, still) (simp (r .command, r .for))
+
+    -- with the check in one go
+    in-one-go : inOneGo s f area ≡ cond listed (stepped s (goFE t channel area)) (unchanged 4 s)
+    unfolding inOneGo answerFE goFE endedFE
+    in-one-go = go listed (early t channel) (short t) refl refl refl
+      where
+        go : (l a b : Bool) → listed ≡ l → early t channel ≡ a → short t ≡ b → inOneGo s f area ≡ cond listed (stepped s (goFE t channel area)) (unchanged 4 s)
+        go false a b el ea eb = rw fe-routed (simp (el, still))
+        go true true b el ea eb = rw fe-routed (simp (el, ea, still))
+        go true false true el ea eb = rw fe-routed (simp (el, ea, eb, still))
+        go true false false el ea eb = rw fe-routed (simp (el, ea, eb))
+
+    chosen : (l : Bool) → listed ≡ l → inOneGo s f area ≡ cond l (stepped s (goFE t channel area)) (unchanged 4 s)
+    chosen l el = in-one-go ∙ ap (λ (x : Bool). cond x (stepped s (goFE t channel area)) (unchanged 4 s)) el
+
+    forwards : SuccessIn channel (inOneGo s f area) → Complete t channel area
+    forwards p = go listed refl
+      where
+        go : (b : Bool) → listed ≡ b → Complete t channel area
+        go true eb = success-complete t channel area (sym (ap (λ (x : Answer). x .reply) (chosen true eb)) ∙ p .reply)
+        go false eb = absurd (let z = sym (ap (λ (x : Answer). x .outcome) (chosen false eb)) ∙ p .answered in omega arith)
+
+    backwards : Complete t channel area → SuccessIn channel (inOneGo s f area)
+    backwards c =
+        let a = chosen true (complete-listed c) in
+        let ok = go-answered t channel area in
+        record {
+          answered = ap (λ (x : Answer). x .outcome) a ∙ ap (λ (b : Bool). cond b 0 10) (ok .0);
+          replies = ap (λ (x : Answer). x .replies) a ∙ ok .1;
+          reply = ap (λ (x : Answer). x .reply) a ∙ complete-success t channel area c;
+        }
+
+    -- where FE starts none, listed or not
+    none-starts : answerFE t channel .transfer .check .running ≡ false → answered s f area .session .transfer .check .running ≡ false
+    none-starts none =
+        ap (λ (x : Answer). x .session .transfer .check .running) fe-routed
+        ∙ of-both (λ (x : Answer). x .session .transfer .check .running ≡ false) listed (stepped s (answerFE t channel)) (unchanged 4 s) none still
+
+    -- it starts a check exactly when it gets as far as the CRC
+    pub starts-at-crc : answered s f area .session .transfer .check .running ≡ reachesCrc t channel
+    unfolding answerFE
+    starts-at-crc = go listed (receivingOrDone (t .phase)) (otherChannel t channel) (eqb (t .stored) (t .image .announced)) refl refl refl refl
+      where
+        go : (l a b c : Bool) → listed ≡ l → receivingOrDone (t .phase) ≡ a → otherChannel t channel ≡ b → eqb (t .stored) (t .image .announced) ≡ c
+            → answered s f area .session .transfer .check .running ≡ reachesCrc t channel
+        go l false b c el ea eb ec = none-starts (simp (ea, still)) ∙ simp ea
+        go l true true c el ea eb ec = none-starts (simp (ea, eb, still)) ∙ simp (ea, eb)
+        go l true false false el ea eb ec = none-starts (simp (ea, eb, ec, still)) ∙ simp (ea, eb, ec)
+        go true true false true el ea eb ec = ap (λ (x : Answer). x .session .transfer .check .running) fe-routed ∙ simp (el, ea, eb, ec)
+        go false true false true el ea eb ec = absurd (let z = sym (own-listed ea (eqb-true channel (t .channel) (not-false _ eb))) ∙ el in let y : _≡_ {A = ℕ} 0 1 = cc in omega arith)
+
+    -- a complete transfer's end request does
+    pub complete-reaches : Complete t channel area → reachesCrc t channel ≡ true
+    complete-reaches c = simp (c .open-or-accepted, eq-eqb channel (t .channel) (c .here), eq-eqb (t .stored) (t .image .announced) (c .all-stored))
+
+    -- one that starts none is answered 03 or 01, or not at all
+    pub early-answers : answered s f area .session .transfer .check .running ≡ false
+        → (answered s f area ≡ unchanged 4 s) ⊎ ((answered s f area ≡ stepped s (replied t (replyState channel 3))) ⊎ (answered s f area ≡ stepped s (replied t (replyState channel 1))))
+    unfolding answerFE
+    early-answers none = go listed (early t channel) (short t) refl refl refl
+      where
+        go : (l a b : Bool) → listed ≡ l → early t channel ≡ a → short t ≡ b
+            → (answered s f area ≡ unchanged 4 s) ⊎ ((answered s f area ≡ stepped s (replied t (replyState channel 3))) ⊎ (answered s f area ≡ stepped s (replied t (replyState channel 1))))
+        go false a b el ea eb = inl (fe-routed ∙ simp el)
+        go true true b el ea eb = inr (inl (fe-routed ∙ simp (el, ea)))
+        go true false true el ea eb = inr (inr (fe-routed ∙ simp (el, ea, eb)))
+        go true false false el ea eb =
+            let is : answered s f area ≡ stepped s (noted (withCheck t startedCheck)) = fe-routed ∙ simp (el, ea, eb) in
+            let no = sym (ap (λ (x : Answer). x .session .transfer .check .running) is) ∙ none in
+            absurd (let z : _≡_ {A = ℕ} 0 1 = cc in omega arith)
+
+    -- one that starts a check lacks nothing but the right CRC-32
+    pub started-complete : answered s f area .session .transfer .check .running ≡ true → checksum crc32 (take (t .image .announced) area) ≡ t .image .crc → Complete t channel area
+    unfolding answerFE
+    started-complete runs right = go listed (early t channel) (short t) refl refl refl
+      where
+        no : {A : Type 0} (a : Answer) → answered s f area ≡ a → a .session .transfer .check .running ≡ false → A
+        no a is none = let y = sym runs ∙ ap (λ (x : Answer). x .session .transfer .check .running) is ∙ none in absurd (let z : _≡_ {A = ℕ} 0 1 = cc in omega arith)
+
+        go : (l a b : Bool) → listed ≡ l → early t channel ≡ a → short t ≡ b → Complete t channel area
+        go false a b el ea eb = no (unchanged 4 s) (fe-routed ∙ simp el) still
+        go true true b el ea eb = no (stepped s (replied t (replyState channel 3))) (fe-routed ∙ simp (el, ea)) still
+        go true false true el ea eb = no (stepped s (replied t (replyState channel 1))) (fe-routed ∙ simp (el, ea, eb)) still
+        go true false false el ea eb =
+            let n = neither (not (receivingOrDone (t .phase))) _ ea in
+            record {
+              open-or-accepted = not-false _ (n .0);
+              here = eqb-true channel (t .channel) (not-false _ (n .1));
+              all-stored = eqb-true (t .stored) (t .image .announced) (not-false _ eb);
+              right = right;
+            }
 
 pub end-request : EndRequest
-end-request s f channel area e size r = (forwards s f channel area e size r, backwards s f channel area e size r)
+end-request s f channel area e size still r = (forwards s f channel area e size r still, backwards s f channel area e size r still)

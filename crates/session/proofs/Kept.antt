@@ -1,12 +1,12 @@
 -- A lawful session answers into a lawful one of the same list and opened length, and the area keeps its length. Assumes nothing.
 use mathlib.Core.Path.{_≡_, refl, sym, ap, _∙_, subst}
-use mathlib.Core.Bool.{Bool, true, false, cond, not, _||_, _&&_, and-eq-true-iff}
+use mathlib.Core.Bool.{true, false, not, _||_, and-eq-true-iff}
 use mathlib.Core.List.{List}
-use Prim.Native.Nat.{ℕ, _+_, _<_, _≤_}
+use Prim.Native.Nat.{ℕ, _<_, _≤_}
 use native.Mathlib.Omega.{arith}
 use borrow.Author.Tests.{ltb-true, ltb-false, eqb-true, eqb-false, not-false}
 use lib.Dec.{ltb, eqb}
-use lib.ListN.{length, getD, take}
+use lib.ListN.{length, getD}
 use Rattle.frames.specs.Frame.{Bytes}
 use Rattle.frames.proofs.Bytes.{bytes-at}
 use Rattle.frames.specs.declared.finished.FinishedFrame.{FinishedFrame}
@@ -16,7 +16,7 @@ use Rattle.commands.specs.declared.request.RequestFC.{RequestFC}
 use Rattle.commands.specs.declared.request.RequestFD.{RequestFD}
 use Rattle.commands.specs.Requests.{channelOf, requestFA, requestFB, requestFC, requestFD, packetOf}
 use Rattle.commands.specs.Limits.{minPacket, maxPacket}
-use Rattle.transfer.specs.declared.phase.Phase.the-variants.{Idle, Told, Done}
+use Rattle.transfer.specs.declared.phase.Phase.the-variants.{Idle, Told}
 use Rattle.transfer.specs.declared.board.Board.{Board}
 use Rattle.transfer.specs.declared.state.Transfer.{Transfer}
 use Rattle.transfer.specs.declared.state.Step.{Step}
@@ -26,9 +26,8 @@ use Rattle.transfer.specs.Transfers.{maxNext, withPhase, otherChannel}
 use Rattle.transfer.specs.FA.{refusedFA, agreedSize, answerFA}
 use Rattle.transfer.specs.FB.{stateFB, afterFB, grantFB, answerFB}
 use Rattle.transfer.specs.FC.{answerFC}
-use Rattle.frames.specs.Places.{writtenAt}
 use Rattle.transfer.specs.FD.{takes, answerFD, areaFD}
-use Rattle.transfer.specs.FE.{rightCrc, answerFE}
+use Rattle.transfer.specs.FE.{answerFE}
 use Rattle.frames.proofs.Choices.{no-refusal, neither, of-both, of-each}
 use Rattle.transfer.proofs.PhaseLaws.{image-busy, receiving-busy, started-image, ending-image}
 use Rattle.frames.proofs.Places.{written-size}
@@ -37,7 +36,7 @@ use Rattle.session.specs.declared.session.Session.{Session}
 use Rattle.session.specs.declared.answer.Answer.{Answer}
 use Rattle.session.specs.Boards.{pastBoard, placeOf}
 use Rattle.session.specs.Lawful.{unlawful, Lawful}
-use Rattle.session.specs.Answering.{unchanged, placeFor, stepOf, areaOf, routed, routedArea, byHeader, headerOfFrame, judged, judgedArea, answered, areaAfter}
+use Rattle.session.specs.Answering.{unchanged, placeFor, stepOf, areaOf, routed, routedArea, headerOfFrame, judged, judgedArea, answered, areaAfter}
 use Rattle.session.proofs.Headers.{by-header}
 use Rattle.session.proofs.Lawfuls.{lawful, lawful-accepted}
 
@@ -51,7 +50,8 @@ withTransfer s t = record { boards = s .boards; count = s .count; opened = s .op
 positive : (n : ℕ) → (n ≡ 0 → ⊥) → 0 < n
 positive n h = omega arith
 
-module _ (s : Session) (k : Lawful s) where
+-- a session whose check does not run
+module _ (s : Session) (k : Lawful s) (still : s .transfer .check .running ≡ false) where
   abbrev t : Transfer
   t = s .transfer
 
@@ -60,8 +60,8 @@ module _ (s : Session) (k : Lawful s) where
 
   -- idle, with lengths and number in order: nothing else is asked
   idle-kept : (u : Transfer) → u .phase ≡ Idle → u .stored ≤ u .image .announced → u .image .announced ≤ s .opened → u .next ≤ maxNext
-      → u .last ≤ maxPacket → u .last ≤ u .stored → Lawful (withTransfer s u)
-  idle-kept u e stored announced number most-last last-stored =
+      → u .last ≤ maxPacket → u .last ≤ u .stored → u .check .running ≡ false → Lawful (withTransfer s u)
+  idle-kept u e stored announced number most-last last-stored none =
       let busy : idle (u .phase) ≡ false → ⊥ = λ f. false-true (sym f ∙ ap idle e) in
       let bare : hasImage (u .phase) ≡ true → ⊥ = λ f. false-true (sym (ap hasImage e) ∙ f) in
       record {
@@ -73,6 +73,9 @@ module _ (s : Session) (k : Lawful s) where
         number = number;
         most-last = most-last;
         last-stored = last-stored;
+        check-unread = λ f. false-true (sym none ∙ f);
+        check-stored = λ f. false-true (sym none ∙ f);
+        check-phase = λ f. false-true (sym none ∙ f);
         listed = λ f. absurd (busy f);
         least-size = λ f. absurd (busy f);
         most-size = λ f. absurd (busy f);
@@ -81,8 +84,9 @@ module _ (s : Session) (k : Lawful s) where
 
   -- the same session's channel and agreed size, in whatever phase
   busy-kept : (u : Transfer) → idle (t .phase) ≡ false → u .channel ≡ t .channel → u .agreed ≡ t .agreed → u .stored ≤ u .image .announced → u .image .announced ≤ s .opened
-      → u .next ≤ maxNext → u .last ≤ maxPacket → u .last ≤ u .stored → (hasImage (u .phase) ≡ true → 0 < u .image .announced) → Lawful (withTransfer s u)
-  busy-kept u i ch size stored announced number most-last last-stored image =
+      → u .next ≤ maxNext → u .last ≤ maxPacket → u .last ≤ u .stored → (hasImage (u .phase) ≡ true → 0 < u .image .announced) → u .check .running ≡ false
+      → Lawful (withTransfer s u)
+  busy-kept u i ch size stored announced number most-last last-stored image none =
       record {
         list = k .list;
         some-area = k .some-area;
@@ -92,6 +96,9 @@ module _ (s : Session) (k : Lawful s) where
         number = number;
         most-last = most-last;
         last-stored = last-stored;
+        check-unread = λ f. false-true (sym none ∙ f);
+        check-stored = λ f. false-true (sym none ∙ f);
+        check-phase = λ f. false-true (sym none ∙ f);
         listed = λ f. subst (λ (c : ℕ). placeOf (s .boards) (s .count) c < s .count) (sym ch) (k .listed i);
         least-size = λ f. subst (λ (n : ℕ). minPacket ≤ n) (sym size) (k .least-size i);
         most-size = λ f. subst (λ (n : ℕ). n ≤ maxPacket) (sym size) (k .most-size i);
@@ -116,6 +123,9 @@ module _ (s : Session) (k : Lawful s) where
         number = k .number;
         most-last = k .most-last;
         last-stored = k .last-stored;
+        check-unread = λ f. false-true (sym still ∙ f);
+        check-stored = λ f. false-true (sym still ∙ f);
+        check-phase = λ f. false-true (sym still ∙ f);
         listed = λ f. here;
         least-size = λ f. size .0;
         most-size = λ f. size .1;
@@ -149,9 +159,9 @@ module _ (s : Session) (k : Lawful s) where
       (λ z.
       let g = granted-length b r (length area) (eqb-true _ _ z) in
       of-each (λ (u : Transfer). Lawful (withTransfer s u)) (sameIdentity (identityOf r) (t .image)) _ _
-      (λ w. let n = same-announced r w in busy-kept (withPhase t Told) i refl refl (k .stored) (k .announced) (k .number) (k .most-last) (k .last-stored) (λ f. omega arith))
-      (λ w. busy-kept _ i refl refl (omega arith) (omega arith) (k .number) (omega arith) (omega arith) (λ f. g .0)))
-      (λ z. idle-kept (withPhase t Idle) refl (k .stored) (k .announced) (k .number) (k .most-last) (k .last-stored)))
+      (λ w. let n = same-announced r w in busy-kept (withPhase t Told) i refl refl (k .stored) (k .announced) (k .number) (k .most-last) (k .last-stored) (λ f. omega arith) still)
+      (λ w. busy-kept _ i refl refl (omega arith) (omega arith) (k .number) (omega arith) (omega arith) (λ f. g .0) still))
+      (λ z. idle-kept (withPhase t Idle) refl (k .stored) (k .announced) (k .number) (k .most-last) (k .last-stored) still))
 
   fc-kept : (r : RequestFC) → Kept (answerFC t r)
   unfolding answerFC
@@ -160,7 +170,7 @@ module _ (s : Session) (k : Lawful s) where
       (λ e.
       let h = started-image (t .phase) (not-false _ (neither (not (toldOrReceiving (t .phase))) _ e .0)) in
       let start = of-both (λ (n : ℕ). n ≤ t .image .announced) (eqb (r .offset) (t .stored)) (t .stored) 0 (k .stored) (omega arith) in
-      busy-kept _ (image-busy (t .phase) h) refl refl start (k .announced) (omega arith) (omega arith) (omega arith) (λ f. k .some-image h))
+      busy-kept _ (image-busy (t .phase) h) refl refl start (k .announced) (omega arith) (omega arith) (omega arith) (λ f. k .some-image h) still)
 
   -- a packet's number has two bytes, so that the next one is at most 65,536; its length is at most the agreed size
   fd-kept : (r : RequestFD) (p area : List ℕ) → r .number < maxNext → Kept (answerFD t r p area)
@@ -181,6 +191,9 @@ module _ (s : Session) (k : Lawful s) where
         number = omega arith;
         most-last = omega arith;
         last-stored = omega arith;
+        check-unread = λ f. false-true (sym still ∙ f);
+        check-stored = λ f. false-true (sym still ∙ f);
+        check-phase = λ f. false-true (sym still ∙ f);
         listed = k .listed;
         least-size = k .least-size;
         most-size = k .most-size;
@@ -188,16 +201,32 @@ module _ (s : Session) (k : Lawful s) where
       })
       (λ e. k)
 
-  fe-kept : (channel : ℕ) (area : List ℕ) → Kept (answerFE t channel area)
+  -- the check starts with all stored, none read, in receiving or done
+  pub fe-kept : (channel : ℕ) → Kept (answerFE t channel)
   unfolding answerFE
-  fe-kept channel area =
+  fe-kept channel =
       of-each Kept (not (receivingOrDone (t .phase)) || otherChannel t channel) _ _ (λ e. k)
       (λ e.
-      let h = ending-image (t .phase) (not-false _ (neither (not (receivingOrDone (t .phase))) _ e .0)) in
-      of-both Kept (not (eqb (t .stored) (t .image .announced))) _ _ k
-      (of-both Kept (rightCrc t area) _ _
-      (busy-kept (withPhase t Done) (image-busy (t .phase) h) refl refl (k .stored) (k .announced) (k .number) (k .most-last) (k .last-stored) (λ f. k .some-image h))
-      (idle-kept _ refl (omega arith) (omega arith) (k .number) (omega arith) (omega arith))))
+      let ending = not-false _ (neither (not (receivingOrDone (t .phase))) _ e .0) in
+      of-each Kept (not (eqb (t .stored) (t .image .announced))) _ _ (λ z. k)
+      (λ z.
+      record {
+        list = k .list;
+        some-area = k .some-area;
+        small-area = k .small-area;
+        stored = k .stored;
+        announced = k .announced;
+        number = k .number;
+        most-last = k .most-last;
+        last-stored = k .last-stored;
+        check-unread = λ f. k .some-image (ending-image (t .phase) ending);
+        check-stored = λ f. eqb-true _ _ (not-false _ z);
+        check-phase = λ f. ending;
+        listed = k .listed;
+        least-size = k .least-size;
+        most-size = k .most-size;
+        some-image = k .some-image;
+      }))
 
   step-kept : (f : FinishedFrame) (b : Board) (area : List ℕ) → length area ≡ s .opened → Bytes (f .bytes) → placeFor s f < s .count → Kept (stepOf t f b area)
   unfolding stepOf requestFA requestFD
@@ -207,7 +236,7 @@ module _ (s : Session) (k : Lawful s) where
       of-both Kept (eqb (f .command) 0xFA) _ _ (fa-kept b (requestFA (f .bytes)) here)
       (of-both Kept (eqb (f .command) 0xFB) _ _ (fb-kept b (requestFB (f .bytes)) area size)
       (of-both Kept (eqb (f .command) 0xFC) _ _ (fc-kept (requestFC (f .bytes)))
-      (of-both Kept (eqb (f .command) 0xFD) _ _ (fd-kept (requestFD (f .bytes)) (packetOf (f .length) (f .bytes)) area (omega arith)) (fe-kept (channelOf (f .bytes)) area))))
+      (of-both Kept (eqb (f .command) 0xFD) _ _ (fd-kept (requestFD (f .bytes)) (packetOf (f .length) (f .bytes)) area (omega arith)) (fe-kept (channelOf (f .bytes))))))
 
 -- what every answer keeps
 pub record Keeps (s : Session) (a : Answer) : Type 0 where
@@ -227,9 +256,10 @@ answer-keeps s f area e bytes =
     by-header (Keeps s) (headerOfFrame f) _ _ _ (same 2) (same 3)
     (of-both (Keeps s) (eqb (f .command) 0xF9) _ _ (same 0)
     (of-each (Keeps s) (ltb (placeFor s f) (s .count)) _ _
-    (λ here.
-    let next = step-kept s (lawful s e) f (getD (s .boards) (placeFor s f) pastBoard) area size bytes (ltb-true _ _ here) in
-    record { accepted = lawful-accepted _ next; same-list = refl; same-count = refl; same-area = refl })
+    (λ here. of-each (Keeps s) (s .transfer .check .running) _ _ (λ _. same 12)
+    (λ still.
+    let next = step-kept s (lawful s e) still f (getD (s .boards) (placeFor s f) pastBoard) area size bytes (ltb-true _ _ here) in
+    record { accepted = lawful-accepted _ next; same-list = refl; same-count = refl; same-area = refl }))
     (λ _. same 4)))))
 
 -- the area keeps its length
@@ -247,9 +277,10 @@ area-size s f area =
     by-header Same (headerOfFrame f) _ _ _ refl refl
     (of-both Same (eqb (f .command) 0xF9) _ _ refl
     (of-both Same (ltb (placeFor s f) (s .count)) _ _
+    (of-both Same (s .transfer .check .running) _ _ refl
     (of-both Same (eqb (f .command) 0xFD) _ _
     (of-each Same (takes (s .transfer) r p area) _ _
     (λ it. written-size area p (s .transfer .stored) (omega (arith, taken (s .transfer) r p area it .fits)))
     (λ _. refl))
-    refl)
+    refl))
     refl))))

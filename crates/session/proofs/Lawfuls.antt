@@ -1,22 +1,22 @@
 -- Outcome 9's sentence as a test and as propositions: they say the same. Assumes nothing.
-use mathlib.Core.Path.{_≡_, refl, ap, ap₂, _∙_}
+use mathlib.Core.Path.{_≡_, refl, ap, ap₂}
 use mathlib.Core.Bool.{Bool, true, false, cond, not, _||_}
 use mathlib.Core.List.{List}
 use Prim.Native.Nat.{ℕ, _≤_, _<_}
 use native.Mathlib.Omega.{arith}
-use borrow.Author.Tests.{ltb-true, ltb-false, lt-ltb, le-ltb, eqb-false, ne-eqb, not-false}
+use borrow.Author.Tests.{ltb-true, ltb-false, lt-ltb, le-ltb, eqb-true, eqb-false, eq-eqb, ne-eqb, not-false}
 use lib.Dec.{ltb, eqb}
 use Rattle.commands.specs.Limits.{minPacket, maxPacket, maxArea}
 use Rattle.transfer.specs.declared.board.Board.{Board}
 use Rattle.transfer.specs.declared.state.Transfer.{Transfer}
-use Rattle.transfer.specs.Phases.{idle, hasImage}
-use Rattle.transfer.specs.Transfers.{maxNext, Sound}
+use Rattle.transfer.specs.Phases.{idle, hasImage, receivingOrDone}
+use Rattle.transfer.specs.Transfers.{Sound}
 use Rattle.frames.proofs.Choices.{neither}
 use Rattle.transfer.proofs.PhaseLaws.{image-busy}
 use Rattle.session.specs.declared.session.Session.{Session}
 use Rattle.session.specs.Boards.{maxBoards, placeOf, badList}
 use Rattle.session.specs.Opening.{badArea}
-use Rattle.session.specs.Lawful.{badLengths, badLast, badSize, badSessionFields, unlawful, Lawful}
+use Rattle.session.specs.Lawful.{badLengths, badLast, badCheck, badSize, badSessionFields, unlawful, Lawful}
 
 pub list-fits : (bs : List Board) (n : ℕ) → badList bs n ≡ false → n ≤ maxBoards
 unfolding badList
@@ -56,6 +56,18 @@ fields t bs n e h =
     positive : (m : ℕ) → (m ≡ 0 → ⊥) → 0 < m
     positive m n = omega arith
 
+-- what a running check is
+record Runs (t : Transfer) : Type 0 where
+  unread : t .check .read < t .image .announced
+  full : t .stored ≡ t .image .announced
+  ending : receivingOrDone (t .phase) ≡ true
+
+runs : (t : Transfer) → badCheck t ≡ false → t .check .running ≡ true → Runs t
+runs t e h =
+    let f1 = neither (not (ltb (t .check .read) (t .image .announced))) _ (if-then (t .check .running) _ e h) in
+    let f2 = neither (not (eqb (t .stored) (t .image .announced))) _ (f1 .1) in
+    record { unread = ltb-true _ _ (not-false _ (f1 .0)); full = eqb-true _ _ (not-false _ (f2 .0)); ending = not-false _ (f2 .1) }
+
 pub lawful : (s : Session) → unlawful s ≡ false → Lawful s
 unfolding unlawful
 lawful s e =
@@ -64,6 +76,7 @@ lawful s e =
     let e2 = neither (badArea (s .opened)) _ (e1 .1) in
     let e3 = neither (badLengths t (s .opened)) _ (e2 .1) in
     let e4 = neither (badLast t) _ (e3 .1) in
+    let e5 = neither (badCheck t) _ (e4 .1) in
     let a1 = neither (ltb (s .opened) 1) _ (e2 .0) in
     let l1 = neither (ltb (t .image .announced) (t .stored)) _ (e3 .0) in
     let l2 = neither (ltb (s .opened) (t .image .announced)) _ (l1 .1) in
@@ -77,10 +90,13 @@ lawful s e =
       number = ltb-false _ _ (l2 .1);
       most-last = ltb-false _ _ (l3 .0);
       last-stored = ltb-false _ _ (l3 .1);
-      listed = λ h. fields t (s .boards) (s .count) (e4 .1) h .listed;
-      least-size = λ h. fields t (s .boards) (s .count) (e4 .1) h .least;
-      most-size = λ h. fields t (s .boards) (s .count) (e4 .1) h .most;
-      some-image = λ k. fields t (s .boards) (s .count) (e4 .1) (image-busy (t .phase) k) .image k;
+      check-unread = λ h. runs t (e5 .0) h .unread;
+      check-stored = λ h. runs t (e5 .0) h .full;
+      check-phase = λ h. runs t (e5 .0) h .ending;
+      listed = λ h. fields t (s .boards) (s .count) (e5 .1) h .listed;
+      least-size = λ h. fields t (s .boards) (s .count) (e5 .1) h .least;
+      most-size = λ h. fields t (s .boards) (s .count) (e5 .1) h .most;
+      some-image = λ k. fields t (s .boards) (s .count) (e5 .1) (image-busy (t .phase) k) .image k;
     }
 
 both-false : (a b : Bool) → a ≡ false → b ≡ false → (a || b) ≡ false
@@ -104,10 +120,14 @@ lawful-accepted s l =
     (both-false (ltb (t .image .announced) (t .stored)) _ (le-ltb _ _ (l .stored))
     (both-false (ltb (s .opened) (t .image .announced)) _ (le-ltb _ _ (l .announced)) (le-ltb _ _ (l .number))))
     (both-false (badLast t) _ (both-false (ltb maxPacket (t .last)) _ (le-ltb _ _ (l .most-last)) (le-ltb _ _ (l .last-stored)))
+    (both-false (badCheck t) _
+    (cond-false (t .check .running) _ (λ h.
+    both-false (not (ltb (t .check .read) (t .image .announced))) _ (ap not (lt-ltb _ _ (l .check-unread h)))
+    (both-false (not (eqb (t .stored) (t .image .announced))) _ (ap not (eq-eqb _ _ (l .check-stored h))) (ap not (l .check-phase h)))))
     (cond-unless (idle (t .phase)) _ (λ h.
     both-false (not (ltb (placeOf (s .boards) (s .count) (t .channel)) (s .count))) _ (ap not (lt-ltb _ _ (l .listed h)))
     (both-false (badSize (t .agreed)) _ (both-false (ltb (t .agreed) minPacket) _ (le-ltb _ _ (l .least-size h)) (le-ltb _ _ (l .most-size h)))
-    (cond-false (hasImage (t .phase)) _ (λ k. ne-eqb _ _ (nonzero (t .image .announced) (l .some-image k))))))))))
+    (cond-false (hasImage (t .phase)) _ (λ k. ne-eqb _ _ (nonzero (t .image .announced) (l .some-image k)))))))))))
   where
     nonzero : (n : ℕ) → 0 < n → n ≡ 0 → ⊥
     nonzero n h e = omega arith
@@ -117,7 +137,7 @@ pub lawful-sound : (s : Session) (n : ℕ) → unlawful s ≡ false → n ≡ s 
 lawful-sound s n e size =
     let l = lawful s e in
     let fits = l .announced in
-    record { stored-fits = l .stored; last-fits = l .last-stored; image-fits = omega arith; number-fits = l .number }
+    record { stored-fits = l .stored; last-fits = l .last-stored; image-fits = omega arith; number-fits = l .number; check-fits = l .check-unread }
 
 pub lawful-count : (s : Session) → unlawful s ≡ false → s .count ≤ maxBoards
 lawful-count s e = list-fits (s .boards) (s .count) (lawful s e .list)

@@ -1,17 +1,16 @@
 -- Opening gives a lawful session, and the all-zero session is not lawful. Assumes nothing.
-use mathlib.Core.Path.{_≡_, refl, sym, ap, _∙_}
+use mathlib.Core.Path.{_≡_, refl, ap, _∙_}
 use mathlib.Core.Bool.{Bool, true, false, cond, _||_}
-use mathlib.Core.List.{List, _++_}
+use mathlib.Core.List.{List}
 use Prim.Native.Nat.{ℕ, zero, suc, _+_, _-_, _<_, _≤_}
 use native.Mathlib.Omega.{arith}
 use borrow.Author.Tests.{ltb-false}
 use lib.Dec.{ltb, eqb}
-use lib.ListN.{length, getD, take, replicate, List·getD-append}
+use lib.ListN.{length, take, replicate, List·getD-append}
 use lib.Seq.{length-take-le, getD-take}
 use Rattle.commands.specs.Search.{find}
 use Rattle.transfer.specs.declared.board.Board.{Board}
 use Rattle.frames.proofs.Choices.{neither}
-use Rattle.session.specs.declared.session.Session.{Session}
 use Rattle.session.specs.Outcomes.{isAnswered}
 use Rattle.session.specs.Boards.{maxBoards, noBoard, pastBoard, channelAt, hasChannel, placeOf, badBoard, badList, listOf}
 use Rattle.commands.specs.Limits.{maxArea}
@@ -62,6 +61,9 @@ fresh-lawful bs n area size good fits =
       number = omega arith;
       most-last = omega arith;
       last-stored = omega arith;
+      check-unread = λ e. let z : _≡_ {A = ℕ} 0 1 = cc in absurd (omega arith);
+      check-stored = λ e. let z : _≡_ {A = ℕ} 0 1 = cc in absurd (omega arith);
+      check-phase = λ e. let z : _≡_ {A = ℕ} 0 1 = cc in absurd (omega arith);
       listed = λ e. let z : _≡_ {A = ℕ} 0 1 = cc in absurd (omega arith);
       least-size = λ e. let z : _≡_ {A = ℕ} 0 1 = cc in absurd (omega arith);
       most-size = λ e. let z : _≡_ {A = ℕ} 0 1 = cc in absurd (omega arith);

@@ -20,7 +20,7 @@ use Rattle.transfer.specs.declared.state.Step.{Step}
 use Rattle.transfer.specs.Phases.{receiving}
 use Rattle.transfer.specs.Transfers.{afterPacket, replied}
 use Rattle.frames.specs.Places.{writtenAt}
-use Rattle.transfer.specs.FD.{lastStored, stateFD, takes, answerFD, areaFD}
+use Rattle.transfer.specs.FD.{lastStored, stateFD, answerFD, areaFD}
 use Rattle.transfer.specs.Repeats.{Leg}
 use Rattle.frames.proofs.Choices.{neither, of-both, of-each}
 use Rattle.transfer.proofs.PhaseLaws.{receiving-busy}
@@ -31,8 +31,8 @@ use Rattle.session.specs.declared.session.Session.{Session}
 use Rattle.session.specs.declared.answer.Answer.{Answer}
 use Rattle.session.specs.Boards.{pastBoard, placeOf}
 use Rattle.session.specs.Lawful.{unlawful}
-use Rattle.session.specs.Answering.{unchanged, stepped, placeFor, stepOf, areaOf, routed, routedArea, byHeader, headerOfFrame, judged, judgedArea, answered, areaAfter}
-use Rattle.session.specs.RepeatedFrame.{fieldsOf, packetIn, Point, answerAt, after, afterAll, TakenHere, OtherPackets, RepliesWith, FrameRepeated, RepeatedFrame}
+use Rattle.session.specs.Answering.{unchanged, stepped, placeFor, stepOf, areaOf, routed, routedArea, headerOfFrame, judged, judgedArea, answered, areaAfter}
+use Rattle.session.specs.RepeatedFrame.{fieldsOf, packetIn, Point, answerAt, after, afterAll, TakenHere, OtherPackets, AnswersWith, RepeatedFrame}
 use Rattle.session.proofs.Headers.{by-header, by-headers}
 use Rattle.session.proofs.Lawfuls.{lawful, lawful-sound}
 use Rattle.session.proofs.Kept.{withTransfer, answer-keeps, area-size}
@@ -66,7 +66,8 @@ fd-passed-by x g is other =
     (by-headers P (headerOfFrame g) _ _ _ _ _ _ (same 2) (same 3)
     (both-choices P (eqb (g .command) 0xF9) _ _ _ _ (same 0)
     (both-choices P (ltb (placeFor s g) (s .count)) _ _ _ _
-    (ap (λ (u : Step). withTransfer s (u .transfer)) (fd-step (s .transfer) g is b (x .area)) ∙ ap (λ (l : Leg). withTransfer s (l .transfer)) n, fd-area (s .transfer) g is (x .area) ∙ ap (λ (l : Leg). l .area) n)
+    (both-choices P (s .transfer .check .running) _ _ _ _ (same 12)
+    (ap (λ (u : Step). withTransfer s (u .transfer)) (fd-step (s .transfer) g is b (x .area)) ∙ ap (λ (l : Leg). withTransfer s (l .transfer)) n, fd-area (s .transfer) g is (x .area) ∙ ap (λ (l : Leg). l .area) n))
     (same 4))))) in
     ap₂ (λ (u : Session) (m : List ℕ). record { session = u; area = m }) (all .0) (all .1)
 
@@ -79,30 +80,32 @@ state-of : (channel n : ℕ) → padded maxReply (replyState channel n) ≡ padd
 unfolding replyState
 state-of channel n e = ap (λ (d : List ℕ). getD d 1 0) e
 
-with-00 : (s : Session) (g : FinishedFrame) (area : List ℕ) → g .command ≡ 0xFD → RepliesWith (answered s g area) (fieldsOf g) 0 → stateFD (s .transfer) (fieldsOf g) (packetIn g) area ≡ 0
+with-00 : (s : Session) (g : FinishedFrame) (area : List ℕ) → g .command ≡ 0xFD → AnswersWith (answered s g area) (fieldsOf g) 0 → stateFD (s .transfer) (fieldsOf g) (packetIn g) area ≡ 0
 unfolding answered judged routed answerFD
 with-00 s g area is =
-    let P : Answer → Type 0 = λ a. RepliesWith a (fieldsOf g) 0 → stateFD (s .transfer) (fieldsOf g) (packetIn g) area ≡ 0 in
+    let P : Answer → Type 0 = λ a. AnswersWith a (fieldsOf g) 0 → stateFD (s .transfer) (fieldsOf g) (packetIn g) area ≡ 0 in
     let b = getD (s .boards) (placeFor s g) pastBoard in
     of-both P (unlawful s) _ _ (λ w. let z = w .0 in absurd (omega arith))
     (of-both P (not (eqb (length area) (s .opened))) _ _ (λ w. let z = w .0 in absurd (omega arith))
     (by-header P (headerOfFrame g) _ _ _ (λ w. let z = w .0 in absurd (omega arith)) (λ w. let z = w .0 in absurd (omega arith))
     (of-each P (eqb (g .command) 0xF9) _ _ (λ e. let z = eqb-true (g .command) 0xF9 e in absurd (omega arith))
     (λ _. of-both P (ltb (placeFor s g) (s .count)) _ _
-    (λ w. state-of (fieldsOf g .channel) _ (ap (λ (u : Step). u .reply) (sym (fd-step (s .transfer) g is b area)) ∙ w .1))
+    (of-both P (s .transfer .check .running) _ _ (λ w. let z = w .0 in absurd (omega arith))
+    (λ w. state-of (fieldsOf g .channel) _ (ap (λ (u : Step). u .reply) (sym (fd-step (s .transfer) g is b area)) ∙ w .1)))
     (λ w. let z = w .0 in absurd (omega arith))))))
 
 -- ---- the frame itself
 
 -- a listed frame FD past 9, 6, 2 and 3
-module _ (s : Session) (f : FinishedFrame) (area : List ℕ) (ok : unlawful s ≡ false) (size : length area ≡ s .opened) (listed : placeFor s f < s .count) where
+module _ (s : Session) (f : FinishedFrame) (area : List ℕ) (ok : unlawful s ≡ false) (size : length area ≡ s .opened) (listed : placeFor s f < s .count)
+    (still : s .transfer .check .running ≡ false) where
   fd-answer : f .command ≡ 0xFD → headerOfFrame f ≡ Right → answered s f area ≡ stepped s (answerFD (s .transfer) (fieldsOf f) (packetIn f) area)
   unfolding answered judged routed stepOf
-  fd-answer is header = rw (ok, eq-eqb (length area) (s .opened) size, header, lt-ltb _ _ listed) (rw is refl)
+  fd-answer is header = rw (ok, eq-eqb (length area) (s .opened) size, header, lt-ltb _ _ listed, still) (rw is refl)
 
   fd-written : f .command ≡ 0xFD → headerOfFrame f ≡ Right → areaAfter s f area ≡ areaFD (s .transfer) (fieldsOf f) (packetIn f) area
   unfolding areaAfter judgedArea routedArea areaOf
-  fd-written is header = rw (ok, eq-eqb (length area) (s .opened) size, header, lt-ltb _ _ listed) (rw is refl)
+  fd-written is header = rw (ok, eq-eqb (length area) (s .opened) size, header, lt-ltb _ _ listed, still) (rw is refl)
 
 module _ (x : Point) (f : FinishedFrame) (ok : unlawful (x .session) ≡ false) (size : length (x .area) ≡ x .session .opened) (bytes : Bytes (f .bytes)) (h : TakenHere x f) where
   abbrev s : Session
@@ -130,13 +133,25 @@ module _ (x : Point) (f : FinishedFrame) (ok : unlawful (x .session) ≡ false) 
       let place : placeFor s f ≡ placeOf (s .boards) (s .count) (s .transfer .channel) = ap (placeOf (s .boards) (s .count)) (eqb-true _ _ (not-false _ (n .1))) in
       omega arith
 
+  -- nor does a check run, which would have everything stored
+  none-runs : s .transfer .check .running ≡ false
+  none-runs = go (s .transfer .check .running) refl
+    where
+      go : (b : Bool) → s .transfer .check .running ≡ b → b ≡ false
+      go true e =
+          let full = lawful s ok .check-stored e in
+          let came = taken (s .transfer) r p (x .area) (h .taken) in
+          let empty : length p ≡ 0 = omega (arith, full, came .fits) in
+          absurd (came .some empty)
+      go false e = refl
+
   left : after x f ≡ record { session = next; area = written }
   unfolding areaFD
   left =
       ap₂ (λ (u : Session) (m : List ℕ). record { session = u; area = m })
-      (ap (λ (a : Answer). a .session) (fd-answer s f (x .area) ok size listed-here (h .command) (h .header))
+      (ap (λ (a : Answer). a .session) (fd-answer s f (x .area) ok size listed-here none-runs (h .command) (h .header))
       ∙ ap (λ (u : Step). withTransfer s (u .transfer)) (packet-counted (s .transfer) r p (x .area) (h .taken)))
-      (fd-written s f (x .area) ok size listed-here (h .command) (h .header)
+      (fd-written s f (x .area) ok size listed-here none-runs (h .command) (h .header)
       ∙ ap (λ (b : Bool). cond b written (x .area)) (h .taken))
 
   next-lawful : unlawful next ≡ false
@@ -147,7 +162,7 @@ module _ (x : Point) (f : FinishedFrame) (ok : unlawful (x .session) ≡ false) 
 
   again : answered next f written ≡ stepped next (replied (next .transfer) (replyState (r .channel) 0))
   again =
-      fd-answer next f written next-lawful written-fits listed-here (h .command) (h .header)
+      fd-answer next f written next-lawful written-fits listed-here none-runs (h .command) (h .header)
       ∙ ap (stepped next) (again-answered (s .transfer) r p (x .area) (lawful-sound s (length (x .area)) ok size) (h .taken))
 
 pub repeated-frame : RepeatedFrame
@@ -165,8 +180,9 @@ repeated-frame x f fs ok size bytes h none =
     record {
       unmoved = still;
       answered-00 = (ap (λ (a : Answer). a .outcome) same, ap (λ (a : Answer). a .reply) same);
+      replies = ap (λ (a : Answer). a .replies) same;
       unchanged = ap (λ (z : Point). after z f) still ∙ fd-passed-by y f (h .command) (λ n. omega arith);
       other-bytes = λ g fd other differs w.
-          let z = with-00 (y .session) g (y .area) fd (subst (λ (l : Point). RepliesWith (answerAt l g) (fieldsOf g) 0) still w) in
+          let z = with-00 (y .session) g (y .area) fd (subst (λ (l : Point). AnswersWith (answerAt l g) (fieldsOf g) 0) still w) in
           differs (repeats-with-00 (record { transfer = y .session .transfer; area = y .area }) (record { request = fieldsOf g; bytes = packetIn g }) (λ n. other (n ∙ next-is)) z .bytes ∙ bytes-are);
     }

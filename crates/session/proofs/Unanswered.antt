@@ -1,12 +1,12 @@
 -- With any outcome but 0 there is no reply and nothing changes: session and area are as they were. Assumes nothing.
-use mathlib.Core.Path.{_≡_, refl, sym, ap, _∙_}
+use mathlib.Core.Path.{_≡_, refl, ap}
 use mathlib.Core.Bool.{Bool, true, false, cond, not, _||_}
 use mathlib.Core.List.{List}
 use Prim.Native.Nat.{ℕ}
 use native.Mathlib.Omega.{arith}
 use borrow.Author.Tests.{eqb-true, eq-eqb}
 use lib.Dec.{ltb, eqb}
-use lib.ListN.{length, getD, take}
+use lib.ListN.{length, getD}
 use Rattle.frames.specs.declared.finished.FinishedFrame.{FinishedFrame}
 use Rattle.frames.specs.Finished.{zeros}
 use Rattle.commands.specs.Requests.{channelOf, requestFA, requestFB, requestFC, requestFD, packetOf}
@@ -19,22 +19,22 @@ use Rattle.transfer.specs.Transfers.{unanswered, otherChannel}
 use Rattle.transfer.specs.FA.{refusedFA, answerFA}
 use Rattle.transfer.specs.FB.{stateFB, grantFB, answerFB}
 use Rattle.transfer.specs.FC.{answerFC}
-use Rattle.transfer.specs.FD.{answerFD, areaFD}
-use Rattle.transfer.specs.FE.{rightCrc, answerFE}
+use Rattle.transfer.specs.FD.{answerFD}
+use Rattle.transfer.specs.FE.{answerFE}
 use Rattle.frames.proofs.Choices.{of-both}
 use Rattle.session.specs.declared.session.Session.{Session}
 use Rattle.session.specs.declared.answer.Answer.{Answer}
 use Rattle.session.specs.Outcomes.{isAnswered}
 use Rattle.session.specs.Boards.{pastBoard}
 use Rattle.session.specs.Lawful.{unlawful}
-use Rattle.session.specs.Answering.{unchanged, stepped, placeFor, stepOf, areaOf, routed, routedArea, byHeader, headerOfFrame, judged, judgedArea, answered, areaAfter}
+use Rattle.session.specs.Answering.{unchanged, stepped, placeFor, stepOf, areaOf, routed, routedArea, headerOfFrame, judged, judgedArea, answered, areaAfter}
 use Rattle.session.proofs.Headers.{by-header, by-headers}
 
 -- a step without an answer leaves the transfer and has no reply
 abbrev Still : Transfer → Step → Type 0
 Still t x = x .answered ≡ false → x ≡ unanswered t
 
-answers : {t : Transfer} (u : Transfer) (d : List ℕ) → Still t (record { answered = true; transfer = u; reply = d })
+answers : {t : Transfer} {replies : Bool} (u : Transfer) (d : List ℕ) → Still t (record { answered = true; replies = replies; transfer = u; reply = d })
 answers u d e = let z : _≡_ {A = ℕ} 0 1 = cc in absurd (omega arith)
 
 module _ (t : Transfer) where
@@ -54,11 +54,11 @@ module _ (t : Transfer) where
   unfolding answerFD
   fd-still r p area = answers _ _
 
-  fe-still : (channel : ℕ) (area : List ℕ) → Still t (answerFE t channel area)
+  fe-still : (channel : ℕ) → Still t (answerFE t channel)
   unfolding answerFE
-  fe-still channel area =
+  fe-still channel =
       of-both (Still t) (not (receivingOrDone (t .phase)) || otherChannel t channel) _ _ (answers _ _)
-      (of-both (Still t) (not (eqb (t .stored) (t .image .announced))) _ _ (answers _ _) (of-both (Still t) (rightCrc t area) _ _ (answers _ _) (answers _ _)))
+      (of-both (Still t) (not (eqb (t .stored) (t .image .announced))) _ _ (answers _ _) (answers _ _))
 
   step-still : (f : FinishedFrame) (b : Board) (area : List ℕ) → Still t (stepOf t f b area)
   unfolding stepOf
@@ -66,7 +66,7 @@ module _ (t : Transfer) where
       of-both (Still t) (eqb (f .command) 0xFA) _ _ (fa-still b (requestFA (f .bytes)))
       (of-both (Still t) (eqb (f .command) 0xFB) _ _ (fb-still b (requestFB (f .bytes)) area)
       (of-both (Still t) (eqb (f .command) 0xFC) _ _ (fc-still (requestFC (f .bytes)))
-      (of-both (Still t) (eqb (f .command) 0xFD) _ _ (fd-still (requestFD (f .bytes)) (packetOf (f .length) (f .bytes)) area) (fe-still (channelOf (f .bytes)) area))))
+      (of-both (Still t) (eqb (f .command) 0xFD) _ _ (fd-still (requestFD (f .bytes)) (packetOf (f .length) (f .bytes)) area) (fe-still (channelOf (f .bytes))))))
 
   -- FD is always answered
   fd-answered : (r : _) (p area : List ℕ) → answerFD t r p area .answered ≡ true
@@ -76,7 +76,8 @@ module _ (t : Transfer) where
 -- the claim, of an answer and the area it leaves
 pub record NothingChanged (s : Session) (area : List ℕ) (a : Answer) (after : List ℕ) : Type 0 where
   pub session : a .session ≡ s
-  pub no-reply : a .reply ≡ zeros maxReply
+  pub no-reply : a .replies ≡ false
+  pub no-data : a .reply ≡ zeros maxReply
   pub same-area : after ≡ area
 
 abbrev Quiet : Session → List ℕ → Answer → List ℕ → Type 0
@@ -96,7 +97,7 @@ unanswered-area t f b area e = go (eqb (f .command) 0xFD) refl
         absurd (let z : _≡_ {A = ℕ} 0 1 = cc in omega arith)
 
 unchanged-quiet : (s : Session) (area : List ℕ) (n : ℕ) → Quiet s area (unchanged n s) area
-unchanged-quiet s area n z = record { session = refl; no-reply = refl; same-area = refl }
+unchanged-quiet s area n z = record { session = refl; no-reply = refl; no-data = refl; same-area = refl }
 
 stepped-quiet : (s : Session) (f : FinishedFrame) (b : Board) (area : List ℕ) → Quiet s area (stepped s (stepOf (s .transfer) f b area)) (areaOf (s .transfer) f area)
 stepped-quiet s f b area z = go (stepOf (s .transfer) f b area .answered) refl
@@ -107,7 +108,8 @@ stepped-quiet s f b area z = go (stepOf (s .transfer) f b area .answered) refl
         let still = step-still (s .transfer) f b area e in
         record {
           session = ap (λ (x : Step). record { boards = s .boards; count = s .count; opened = s .opened; transfer = x .transfer }) still;
-          no-reply = ap (λ (x : Step). x .reply) still;
+          no-reply = ap (λ (x : Step). x .replies) still;
+          no-data = ap (λ (x : Step). x .reply) still;
           same-area = unanswered-area (s .transfer) f b area e;
         }
 
@@ -125,7 +127,9 @@ nothing-changed s f area =
     (both-choices P (not (eqb (length area) (s .opened))) _ _ _ _ (same 6)
     (by-headers P (headerOfFrame f) _ _ _ _ _ _ (same 2) (same 3)
     (both-choices P (eqb (f .command) 0xF9) _ _ _ _ (same 0)
-    (both-choices P (ltb (placeFor s f) (s .count)) _ _ _ _ (stepped-quiet s f (getD (s .boards) (placeFor s f) pastBoard) area) (same 4)))))
+    (both-choices P (ltb (placeFor s f) (s .count)) _ _ _ _
+    (both-choices P (s .transfer .check .running) _ _ _ _ (same 12) (stepped-quiet s f (getD (s .boards) (placeFor s f) pastBoard) area))
+    (same 4)))))
 
 -- ---- a lawful session with its own area refuses nothing as a call does
 
@@ -140,5 +144,7 @@ answer-accepts s f area e size =
     rw (e, eq-eqb (length area) (s .opened) size)
     (by-header P (headerOfFrame f) _ _ _ (λ z. omega arith, (λ z. omega arith, λ z. omega arith)) (λ z. omega arith, (λ z. omega arith, λ z. omega arith))
     (of-both P (eqb (f .command) 0xF9) _ _ (λ z. omega arith, (λ z. omega arith, λ z. omega arith))
-    (of-both P (ltb (placeFor s f) (s .count)) _ _ (of-both NoRefusal (stepOf (s .transfer) f (getD (s .boards) (placeFor s f) pastBoard) area .answered) 0 10 (λ z. omega arith, (λ z. omega arith, λ z. omega arith)) (λ z. omega arith, (λ z. omega arith, λ z. omega arith)))
+    (of-both P (ltb (placeFor s f) (s .count)) _ _
+    (of-both P (s .transfer .check .running) _ _ (λ z. omega arith, (λ z. omega arith, λ z. omega arith))
+    (of-both NoRefusal (stepOf (s .transfer) f (getD (s .boards) (placeFor s f) pastBoard) area .answered) 0 10 (λ z. omega arith, (λ z. omega arith, λ z. omega arith)) (λ z. omega arith, (λ z. omega arith, λ z. omega arith))))
     (λ z. omega arith, (λ z. omega arith, λ z. omega arith)))))

@@ -1,6 +1,6 @@
--- 01, "How the session answers": "First version byte, L and channel are checked (outcomes 2, 3, 4 below, in that order)." Then the
--- transfer's answer to the command. Assumes nothing.
-use mathlib.Core.Bool.{Bool, cond, not}
+-- 01, "How the session answers": "First version byte, L and channel are checked (outcomes 2, 3, 4 below, in that order)." Document 02,
+-- K5: "While a check runs, FA to FE get a new outcome 12 after 4, as 2." Then the transfer's answer to the command. Assumes nothing.
+use mathlib.Core.Bool.{false, cond, not}
 use mathlib.Core.List.{List}
 use Prim.Native.Nat.{ℕ}
 use lib.Dec.{ltb, eqb}
@@ -22,19 +22,20 @@ use Rattle.transfer.specs.FD.{answerFD, areaFD}
 use Rattle.transfer.specs.FE.{answerFE}
 use Rattle.session.specs.declared.session.Session.{Session}
 use Rattle.session.specs.declared.answer.Answer.{Answer}
-use Rattle.session.specs.Outcomes.{isAnswered, unlistedCommand, wrongHeader, unlistedChannel, otherArea, isUnlawful, wrongPhase}
+use Rattle.session.specs.Outcomes.{isAnswered, unlistedCommand, wrongHeader, unlistedChannel, otherArea, isUnlawful, wrongPhase, checkRuns}
 use Rattle.session.specs.Boards.{pastBoard, placeOf}
 use Rattle.session.specs.Lawful.{unlawful}
 
 -- no reply, nothing changed
 abbrev pub unchanged : ℕ → Session → Answer
-unchanged outcome s = record { outcome = outcome; session = s; reply = zeros maxReply }
+unchanged outcome s = record { outcome = outcome; replies = false; session = s; reply = zeros maxReply }
 
 -- the transfer's answer; outcome 10 where there is none
 abbrev pub stepped : Session → Step → Answer
 stepped s x =
     record {
       outcome = cond (x .answered) isAnswered wrongPhase;
+      replies = x .replies;
       session = record { boards = s .boards; count = s .count; opened = s .opened; transfer = x .transfer };
       reply = x .reply;
     }
@@ -50,22 +51,26 @@ stepOf t f b area =
     (cond (eqb (f .command) 0xFB) (answerFB t b (requestFB (f .bytes)) area)
     (cond (eqb (f .command) 0xFC) (answerFC t (requestFC (f .bytes)))
     (cond (eqb (f .command) 0xFD) (answerFD t (requestFD (f .bytes)) (packetOf (f .length) (f .bytes)) area)
-    (answerFE t (channelOf (f .bytes)) area))))
+    (answerFE t (channelOf (f .bytes))))))
 
 -- only FD writes into the area
 unfoldable pub areaOf : Transfer → FinishedFrame → List ℕ → List ℕ
 areaOf t f area = cond (eqb (f .command) 0xFD) (areaFD t (requestFD (f .bytes)) (packetOf (f .length) (f .bytes)) area) area
 
--- "F9: noted, no reply, nothing changes"; outcome 4 for a channel that is not in the list
+-- "F9: noted, no reply, nothing changes"; outcome 4 for a channel that is not in the list; "12 after 4"
 unfoldable pub routed : Session → FinishedFrame → List ℕ → Answer
 routed s f area =
     cond (eqb (f .command) 0xF9) (unchanged isAnswered s)
     (cond (ltb (placeFor s f) (s .count))
-    (stepped s (stepOf (s .transfer) f (getD (s .boards) (placeFor s f) pastBoard) area))
+    (cond (s .transfer .check .running)
+    (unchanged checkRuns s)
+    (stepped s (stepOf (s .transfer) f (getD (s .boards) (placeFor s f) pastBoard) area)))
     (unchanged unlistedChannel s))
 
 unfoldable pub routedArea : Session → FinishedFrame → List ℕ → List ℕ
-routedArea s f area = cond (eqb (f .command) 0xF9) area (cond (ltb (placeFor s f) (s .count)) (areaOf (s .transfer) f area) area)
+routedArea s f area =
+    cond (eqb (f .command) 0xF9) area
+    (cond (ltb (placeFor s f) (s .count)) (cond (s .transfer .check .running) area (areaOf (s .transfer) f area)) area)
 
 -- outcomes 2 and 3
 abbrev pub byHeader : {A : Type 0} → Header → A → A → A → A

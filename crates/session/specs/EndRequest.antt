@@ -1,5 +1,7 @@
 -- Demand 2: "An end request is answered "success" exactly when a transfer on that channel is open or just accepted, the stored length is
--- the announced one, and the CRC-32 of the bytes then standing in the area is the announced one." Assumes nothing.
+-- the announced one, and the CRC-32 of the bytes then standing in the area is the announced one." Document 02, K5: it "speaks of an end
+-- request that does not meet 12, once its check is finished ..; its verdict is that of the check in one go". Here the check is made in one
+-- go; that portions of any size come to the same is the record's claim, one layer up. Assumes nothing.
 use mathlib.Core.Path.{_≡_}
 use mathlib.Core.Bool.{true, false}
 use mathlib.Core.Logic.{_↔_}
@@ -14,9 +16,10 @@ use Rattle.commands.specs.Replies.{maxReply, replyState}
 use Rattle.transfer.specs.declared.state.Transfer.{Transfer}
 use Rattle.transfer.specs.Phases.{receivingOrDone}
 use Rattle.session.specs.declared.session.Session.{Session}
+use Rattle.session.specs.declared.answer.Answer.{Answer}
 use Rattle.session.specs.Outcomes.{isAnswered}
 use Rattle.session.specs.Lawful.{unlawful}
-use Rattle.session.specs.Answering.{answered}
+use Rattle.session.specs.OneGo.{inOneGo}
 
 -- the frame FE of a channel: version 00, L 1
 pub record IsEndRequest (f : FinishedFrame) (channel : ℕ) : Type 0 where
@@ -32,8 +35,14 @@ pub record Complete (t : Transfer) (channel : ℕ) (area : List ℕ) : Type 0 wh
   pub all-stored : t .stored ≡ t .image .announced
   pub right : checksum crc32 (take (t .image .announced) area) ≡ t .image .crc
 
+-- an answer with the reply FE, that channel, 00
+pub record SuccessIn (channel : ℕ) (a : Answer) : Type 0 where
+  pub answered : a .outcome ≡ isAnswered
+  pub replies : a .replies ≡ true
+  pub reply : a .reply ≡ padded maxReply (replyState channel 0)
+
 -- the claim: premises on the input alone
 abbrev pub EndRequest : Type 0
 EndRequest =
-    (s : Session) (f : FinishedFrame) (channel : ℕ) (area : List ℕ) → unlawful s ≡ false → length area ≡ s .opened → IsEndRequest f channel
-    → ((answered s f area .outcome ≡ isAnswered) × (answered s f area .reply ≡ padded maxReply (replyState channel 0))) ↔ Complete (s .transfer) channel area
+    (s : Session) (f : FinishedFrame) (channel : ℕ) (area : List ℕ) → unlawful s ≡ false → length area ≡ s .opened → s .transfer .check .running ≡ false
+    → IsEndRequest f channel → SuccessIn channel (inOneGo s f area) ↔ Complete (s .transfer) channel area

@@ -1,7 +1,8 @@
 -- 01, "Outcome numbers": "Outcome 9 is given exactly when: held is above 526; list or opened length breaks opening's rules; stored is
 -- above announced or announced above the opened length; next number is above 65,536; or, unless idle, the session's channel is not
 -- listed or the agreed size is not 16 to 512; or, in told, receiving or done, announced is 0." Document 02, K2, adds: if the last
--- packet's length "is above 512 or above stored". Of this the session has all but the held bytes. Assumes nothing.
+-- packet's length "is above 512 or above stored"; K5: "if a running check has read the announced length or more, or runs though stored is
+-- not announced or the phase is not receiving or done". Of this the session has all but the held bytes. Assumes nothing.
 use mathlib.Core.Path.{_≡_}
 use mathlib.Core.Bool.{Bool, true, false, cond, not, _||_}
 use mathlib.Core.List.{List}
@@ -10,7 +11,7 @@ use lib.Dec.{ltb, eqb}
 use Rattle.commands.specs.Limits.{minPacket, maxPacket, maxArea}
 use Rattle.transfer.specs.declared.board.Board.{Board}
 use Rattle.transfer.specs.declared.state.Transfer.{Transfer}
-use Rattle.transfer.specs.Phases.{idle, hasImage}
+use Rattle.transfer.specs.Phases.{idle, hasImage, receivingOrDone}
 use Rattle.transfer.specs.Transfers.{maxNext}
 use Rattle.session.specs.declared.session.Session.{Session}
 use Rattle.session.specs.Boards.{placeOf, badList}
@@ -24,6 +25,13 @@ badLengths t opened = ltb (t .image .announced) (t .stored) || (ltb opened (t .i
 abbrev pub badLast : Transfer → Bool
 badLast t = ltb maxPacket (t .last) || ltb (t .stored) (t .last)
 
+-- "a running check has read the announced length or more, or runs though stored is not announced or the phase is not receiving or done"
+abbrev pub badCheck : Transfer → Bool
+badCheck t =
+    cond (t .check .running)
+    (not (ltb (t .check .read) (t .image .announced)) || (not (eqb (t .stored) (t .image .announced)) || not (receivingOrDone (t .phase))))
+    false
+
 abbrev pub badSize : ℕ → Bool
 badSize agreed = ltb agreed minPacket || ltb maxPacket agreed
 
@@ -36,7 +44,7 @@ badSessionFields t bs n =
 unfoldable pub unlawful : Session → Bool
 unlawful s =
     badList (s .boards) (s .count)
-    || (badArea (s .opened) || (badLengths (s .transfer) (s .opened) || (badLast (s .transfer) || badSessionFields (s .transfer) (s .boards) (s .count))))
+    || (badArea (s .opened) || (badLengths (s .transfer) (s .opened) || (badLast (s .transfer) || (badCheck (s .transfer) || badSessionFields (s .transfer) (s .boards) (s .count)))))
 
 -- The same as propositions, one to a rule; they are proved to hold exactly where `unlawful` is false.
 pub record Lawful (s : Session) : Type 0 where
@@ -48,6 +56,9 @@ pub record Lawful (s : Session) : Type 0 where
   pub number : s .transfer .next ≤ maxNext
   pub most-last : s .transfer .last ≤ maxPacket
   pub last-stored : s .transfer .last ≤ s .transfer .stored
+  pub check-unread : s .transfer .check .running ≡ true → s .transfer .check .read < s .transfer .image .announced
+  pub check-stored : s .transfer .check .running ≡ true → s .transfer .stored ≡ s .transfer .image .announced
+  pub check-phase : s .transfer .check .running ≡ true → receivingOrDone (s .transfer .phase) ≡ true
   pub listed : idle (s .transfer .phase) ≡ false → placeOf (s .boards) (s .count) (s .transfer .channel) < s .count
   pub least-size : idle (s .transfer .phase) ≡ false → minPacket ≤ s .transfer .agreed
   pub most-size : idle (s .transfer .phase) ≡ false → s .transfer .agreed ≤ maxPacket

@@ -1,10 +1,12 @@
 -- The definitions that the contracts of `session` cite: 01, "The record and the board list", "How the session answers" and
--- "Outcome numbers".
+-- "Outcome numbers"; document 02, K2 and K5.
 pub mod Outcomes
 pub mod Boards
 pub mod Opening
 pub mod Lawful
 pub mod Answering
+pub mod Checking
+pub mod OneGo
 pub mod EndRequest
 pub mod RepeatedFrame
 pub mod Report

@@ -1,4 +1,4 @@
--- 01, "Outcome numbers": which number is which. Assumes nothing.
+-- 01, "Outcome numbers", and document 02: which number is which. Assumes nothing.
 use Prim.Native.Nat.{ℕ}
 
 -- "a frame answered, or F9 noted"
@@ -48,3 +48,15 @@ wrongPhase = 10
 -- "outward F9: room below 8 + 7n"
 abbrev pub shortReportRoom : ℕ
 shortReportRoom = 11
+
+-- 02, K5: "While a check runs, FA to FE get a new outcome 12 after 4"
+abbrev pub checkRuns : ℕ
+checkRuns = 12
+
+-- 02, K5: "18 when no check runs"
+abbrev pub noCheckRuns : ℕ
+noCheckRuns = 18
+
+-- 02, K5: "before that it is 19"
+abbrev pub isUnfinished : ℕ
+isUnfinished = 19

@@ -1,6 +1,6 @@
 -- Document 02, K2, "A lost reply must not cost the whole leg", at the session: a frame FD whose packet was taken is answered 00 when it
--- comes again and changes nothing, however often it came before and whatever packets but the next came in between; a frame of other
--- bytes never is. Assumes nothing.
+-- comes again and changes nothing, however often it came before and whatever packets but the next came in between; a frame FD of other
+-- bytes, the next packet's aside, never is. Assumes nothing.
 use mathlib.Core.Path.{_≡_}
 use mathlib.Core.Bool.{true, false}
 use mathlib.Core.List.{List, [], _∷_}
@@ -53,17 +53,18 @@ abbrev pub OtherPackets : ℕ → List FinishedFrame → Type 0
 OtherPackets number [] = Unit
 OtherPackets number (f ∷ fs) = (f .command ≡ 0xFD) × ((fieldsOf f .number ≡ number → ⊥) × OtherPackets number fs)
 
--- the reply to an FD: outcome 0 and its state
-abbrev pub RepliesWith : Answer → RequestFD → ℕ → Type 0
-RepliesWith a r state = (a .outcome ≡ isAnswered) × (a .reply ≡ padded maxReply (replyState (r .channel) state))
+-- outcome 0, and the data of a reply to an FD with this state
+abbrev pub AnswersWith : Answer → RequestFD → ℕ → Type 0
+AnswersWith a r state = (a .outcome ≡ isAnswered) × (a .reply ≡ padded maxReply (replyState (r .channel) state))
 
 -- what holds once frame f was taken at x and the frames fs came after it
 pub record FrameRepeated (x : Point) (f : FinishedFrame) (fs : List FinishedFrame) : Type 0 where
   pub unmoved : afterAll (after x f) fs ≡ after x f
-  pub answered-00 : RepliesWith (answerAt (afterAll (after x f) fs) f) (fieldsOf f) 0
+  pub answered-00 : AnswersWith (answerAt (afterAll (after x f) fs) f) (fieldsOf f) 0
+  pub replies : answerAt (afterAll (after x f) fs) f .replies ≡ true
   pub unchanged : after (afterAll (after x f) fs) f ≡ after x f
   pub other-bytes : (g : FinishedFrame) → g .command ≡ 0xFD → (fieldsOf g .number ≡ fieldsOf f .number + 1 → ⊥) → (packetIn g ≡ packetIn f → ⊥)
-      → RepliesWith (answerAt (afterAll (after x f) fs) g) (fieldsOf g) 0 → ⊥
+      → AnswersWith (answerAt (afterAll (after x f) fs) g) (fieldsOf g) 0 → ⊥
 
 abbrev pub RepeatedFrame : Type 0
 RepeatedFrame =

@@ -19,9 +19,10 @@ ghost use Rattle.session.specs.Boards.{maxBoards};
 ghost use Rattle.session.specs.Lawful.{unlawful};
 ghost use Rattle.session.specs.Answering.{unchanged, stepped, placeFor, stepOf, areaOf, routed, routedArea, judged, judgedArea, answered, areaAfter};
 
-// What a frame makes of a session. Only with outcome 0 is there a reply, and its command says whether there is one.
+// What a frame makes of a session. Only with outcome 0 can there be a reply; without one its data is zeros.
 pub struct Answer {
     pub outcome: u8,
+    pub replies: bool,
     pub session: Session,
     pub reply: [u8; 26],
 }
@@ -54,7 +55,7 @@ impl Session {
         }
     }
 
-    // F9 is noted; any other frame goes to the board of its channel, outcome 4 where there is none.
+    // F9 is noted. Any other frame goes to the board of its channel: outcome 4 where there is none, then 12 while an end check runs.
     fn route(self, f: FinishedFrame, area: &mut [u8]) -> Answer
         requires { ⌜ unlawful self ≡ false ⌝ }
         requires { ⌜ length (now area) ≡ self .opened ⌝ }
@@ -64,14 +65,19 @@ impl Session {
             return Answer::unchanged(outcome::ANSWERED, self);
         }
         let i = self.place_for(f);
-        if i < self.count {
-            let boards = self.boards;
-            let board = list::board_at(boards, i);
-            let transfer = self.transfer;
-            let step = respond(transfer, f, board, area);
-            return Answer::stepped(self, step);
+        let transfer = self.transfer;
+        let count = self.count;
+        let is_checking = transfer.check.running;
+        if count <= i {
+            return Answer::unchanged(outcome::UNLISTED_CHANNEL, self);
         }
-        Answer::unchanged(outcome::UNLISTED_CHANNEL, self)
+        if is_checking {
+            return Answer::unchanged(outcome::CHECK_RUNS, self);
+        }
+        let boards = self.boards;
+        let board = list::board_at(boards, i);
+        let step = respond(transfer, f, board, area);
+        Answer::stepped(self, step)
     }
 
     fn place_for(self, f: FinishedFrame) -> usize
@@ -92,6 +98,7 @@ impl Answer {
         let reply = reply::none();
         Answer {
             outcome,
+            replies: false,
             session,
             reply,
         }
@@ -105,12 +112,14 @@ impl Answer {
         if step.answered {
             return Answer {
                 outcome: outcome::ANSWERED,
+                replies: step.replies,
                 session: next,
                 reply,
             };
         }
         Answer {
             outcome: outcome::WRONG_PHASE,
+            replies: step.replies,
             session: next,
             reply,
         }
@@ -136,5 +145,5 @@ fn respond(t: Transfer, f: FinishedFrame, board: Board, area: &mut [u8]) -> Step
     if command == table::FD {
         return t.fd(request::fd(&d), request::packet(&d, f.length), area);
     }
-    t.fe(request::channel(&d), &area[..])
+    t.fe(request::channel(&d))
 }

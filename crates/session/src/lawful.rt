@@ -7,11 +7,12 @@ use commands::limits::MIN_PACKET;
 use transfer::board::Board;
 use transfer::phase::has_image;
 use transfer::phase::is_idle;
+use transfer::phase::is_receiving_or_done;
 use transfer::state::Transfer;
 ghost use mathlib.Core.Path.{_≡_};
 ghost use Prim.Native.Nat.{_≤_};
 ghost use Rattle.session.specs.Boards.{maxBoards};
-ghost use Rattle.session.specs.Lawful.{badLengths, badLast, badSize, badSessionFields, unlawful};
+ghost use Rattle.session.specs.Lawful.{badLengths, badLast, badCheck, badSize, badSessionFields, unlawful};
 
 // After number 65,535 no packet is next.
 const MAX_NEXT: usize = 65536;
@@ -32,6 +33,9 @@ impl Session {
             return true;
         }
         if bad_last(transfer) {
+            return true;
+        }
+        if bad_check(transfer) {
             return true;
         }
         bad_session_fields(transfer, boards, self.count)
@@ -59,6 +63,27 @@ fn bad_last(t: Transfer) -> bool
         return true;
     }
     t.stored < t.last
+}
+
+// A running end check.
+fn bad_check(t: Transfer) -> bool
+    ensures { λ r. ⌜ r ≡ badCheck t ⌝ }
+{
+    let check = t.check;
+    let phase = t.phase;
+    if check.running {
+        if t.image.announced <= check.read {
+            return true;
+        }
+        if t.stored != t.image.announced {
+            return true;
+        }
+        if is_receiving_or_done(phase) {
+            return false;
+        }
+        return true;
+    }
+    false
 }
 
 fn bad_session_fields(t: Transfer, boards: [Board; list::MAX_BOARDS], count: usize) -> bool

@@ -1,4 +1,4 @@
-// The board list: "1 to 10 boards (channel 10 to 19, none twice)".
+// The board list: "1 to 10 boards (channel 10 to 19, none twice; ..)".
 use transfer::board::Board;
 ghost use mathlib.Core.Path.{_≡_};
 ghost use Prim.Native.Nat.{_≤_, _<_};

@@ -1,4 +1,4 @@
-// The outcome numbers of document 01.
+// The outcome numbers of documents 01 and 02.
 pub const ANSWERED: u8 = 0;
 
 pub const NO_FRAME: u8 = 1;
@@ -22,3 +22,9 @@ pub const UNLAWFUL: u8 = 9;
 pub const WRONG_PHASE: u8 = 10;
 
 pub const SHORT_REPORT_ROOM: u8 = 11;
+
+pub const CHECK_RUNS: u8 = 12;
+
+pub const NO_CHECK_RUNS: u8 = 18;
+
+pub const UNFINISHED: u8 = 19;

@@ -3,4 +3,5 @@ pub mod PhaseLaws
 pub mod Sames
 pub mod Packets
 pub mod Results
+pub mod Slices
 pub mod Repetitions

@@ -2,9 +2,9 @@
 use mathlib.Core.Path.{_≡_, refl, sym, ap, ap₂, _∙_, subst}
 use mathlib.Core.Bool.{Bool, true, false, cond, not, _||_, _&&_}
 use mathlib.Core.List.{List, [], _∷_, _++_}
-use Prim.Native.Nat.{ℕ, _+_, _-_, _≤_}
+use Prim.Native.Nat.{ℕ, _+_, _-_}
 use native.Mathlib.Omega.{arith}
-use borrow.Author.Tests.{eqb-true, eq-eqb, ne-eqb}
+use borrow.Author.Tests.{eq-eqb, ne-eqb}
 use lib.Dec.{eqb}
 use lib.ListN.{length, take, drop}
 use lib.Seq.{length-take-le, take-append-seam, drop-at}
@@ -16,7 +16,7 @@ use Rattle.commands.specs.Replies.{replyState}
 use Rattle.transfer.specs.declared.board.Board.{Board}
 use Rattle.transfer.specs.declared.state.Transfer.{Transfer}
 use Rattle.transfer.specs.declared.state.Step.{Step}
-use Rattle.transfer.specs.Phases.{idle, toldOrReceiving}
+use Rattle.transfer.specs.Phases.{idle, toldOrReceiving, receivingOrDone}
 use Rattle.transfer.specs.Identities.{same, identityOf, sameIdentity}
 use Rattle.transfer.specs.Transfers.{afterPacket, otherChannel, replied, Sound}
 use Rattle.transfer.specs.FA.{refusedFA, answerFA}
@@ -24,11 +24,11 @@ use Rattle.transfer.specs.FB.{stateFB, afterFB, grantFB, answerFB}
 use Rattle.transfer.specs.FC.{answerFC}
 use Rattle.frames.specs.Places.{writtenAt}
 use Rattle.transfer.specs.FD.{lastStored, repeats, stateFD, takes, answerFD, areaFD}
-use Rattle.transfer.specs.FE.{answerFE}
-use Rattle.transfer.specs.Repeats.{Packet, Leg, stateTo, answerTo, after, afterAll, NoneOf, Repetition, RepeatedPacket, LastLength}
-use Rattle.frames.proofs.Choices.{of-both, of-each}
+use Rattle.transfer.specs.FE.{answerFE, endedFE}
+use Rattle.transfer.specs.Repeats.{Packet, Leg, stateTo, answerTo, after, afterAll, NoneOf, RepeatedPacket, LastLength}
+use Rattle.frames.proofs.Choices.{of-both}
 use Rattle.transfer.proofs.Sames.{same-self}
-use Rattle.transfer.proofs.Packets.{Repeated, repeated, Taken, taken, passed, taken-state}
+use Rattle.transfer.proofs.Packets.{Repeated, repeated, taken, passed}
 use Rattle.transfer.proofs.Results.{packet-counted, packet-not-taken, end-failed}
 
 -- ---- packets other than the next
@@ -144,6 +144,16 @@ module _ (t : Transfer) where
       of-both (λ (s : Step). s .answered ≡ true → s .transfer .last ≡ 0) (idle (t .phase) || otherChannel t (r .channel)) _ _
       (λ e. let z : _≡_ {A = ℕ} 0 1 = cc in absurd (omega arith)) (λ e. simp (eq-eqb (stateFB b r (length area)) 0 granted, other)) answered
 
+  fe-kept : (channel : ℕ) → answerFE t channel .transfer .last ≡ t .last
+  unfolding answerFE
+  fe-kept channel =
+      of-both (λ (s : Step). s .transfer .last ≡ t .last) (not (receivingOrDone (t .phase)) || otherChannel t channel) _ _ refl
+      (of-both (λ (s : Step). s .transfer .last ≡ t .last) (not (eqb (t .stored) (t .image .announced))) _ _ refl refl)
+
+  right-kept : endedFE t true .transfer .last ≡ t .last
+  unfolding endedFE
+  right-kept = refl
+
   fa-kept : (b : Board) (r : RequestFA) → answerFA t b r .transfer .last ≡ t .last
   unfolding answerFA
   fa-kept b r = of-both (λ (s : Step). s .transfer .last ≡ t .last) (refusedFA b r) _ _ refl refl
@@ -173,7 +183,10 @@ last-length t =
     record {
       fc-none = fc-none t;
       fb-none = fb-none t;
-      fe-none = λ channel area phase here full wrong. ap (λ (s : Step). s .transfer .last) (end-failed t channel area phase here full wrong);
+      fe-none = ap (λ (s : Step). s .transfer .last) (end-failed t);
+      fe-kept = fe-kept t;
+      on-kept = λ c. refl;
+      right-kept = right-kept t;
       fa-kept = fa-kept t;
       fb-kept = fb-kept t;
       never = never t;

@@ -1,10 +1,10 @@
 -- What the answers leave, each by itself. Assumes nothing.
-use mathlib.Core.Path.{_≡_, refl, sym, ap, ap₂, _∙_}
-use mathlib.Core.Bool.{Bool, true, false, cond, not, _||_, _&&_}
+use mathlib.Core.Path.{_≡_, refl, ap}
+use mathlib.Core.Bool.{Bool, true, false, not, _||_, _&&_}
 use mathlib.Core.List.{List, _++_}
-use Prim.Native.Nat.{ℕ, _+_, _<_, _≤_}
+use Prim.Native.Nat.{ℕ, _+_, _<_}
 use native.Mathlib.Omega.{arith}
-use borrow.Author.Tests.{eq-eqb, ne-eqb}
+use borrow.Author.Tests.{ne-eqb}
 use lib.Dec.{eqb}
 use lib.ListN.{length, take, drop, getD}
 use Rattle.frames.specs.Finished.{padded}
@@ -15,10 +15,10 @@ use Rattle.transfer.specs.declared.state.Transfer.{Transfer}
 use Rattle.transfer.specs.declared.state.Step.{Step}
 use Rattle.transfer.specs.Phases.{receivingOrDone}
 use Rattle.transfer.specs.Identities.{noIdentity}
-use Rattle.transfer.specs.Transfers.{maxNext, afterPacket, withProgress, otherChannel, replied}
+use Rattle.transfer.specs.Transfers.{maxNext, noCheck, afterPacket, withProgress, withCheck, otherChannel, replied}
 use Rattle.frames.specs.Places.{writtenAt}
 use Rattle.transfer.specs.FD.{repeats, stateFD, takes, answerFD, areaFD}
-use Rattle.transfer.specs.FE.{rightCrc, answerFE}
+use Rattle.transfer.specs.FE.{answerFE, endedFE}
 use Rattle.frames.proofs.Choices.{of-both}
 use Rattle.transfer.proofs.Packets.{taken, taken-state}
 
@@ -46,25 +46,32 @@ module _ (t : Transfer) (r : RequestFD) (p area : List ℕ) where
   pub none-next : t .next ≡ maxNext → r .number < maxNext → takes t r p area ≡ true → ⊥
   none-next last small e = let n = taken t r p area e .number in omega arith
 
-module _ (t : Transfer) (channel : ℕ) (area : List ℕ) where
-  -- a failed end check: idle, nothing stored, no identity, all else as it was
-  pub end-failed : receivingOrDone (t .phase) ≡ true → channel ≡ t .channel → t .stored ≡ t .image .announced → rightCrc t area ≡ false
-      → answerFE t channel area ≡ replied (withProgress t Idle (t .next) 0 noIdentity) (replyState channel 3)
-  unfolding answerFE
-  end-failed phase here full wrong =
-      let there : (not (receivingOrDone (t .phase)) || otherChannel t channel) ≡ false = ap₂ _||_ (ap not phase) (ap not (eq-eqb channel (t .channel) here)) in
-      simp (there, eq-eqb (t .stored) (t .image .announced) full, wrong)
+-- ---- FE and the end of its check
 
-  -- replies with another state are other replies
-  state-of : (m n : ℕ) → padded maxReply (replyState channel m) ≡ padded maxReply (replyState channel n) → m ≡ n
-  unfolding replyState
-  state-of m n e = ap (λ (d : List ℕ). getD d 1 0) e
+-- a failed end check: idle, nothing stored, no identity, no check, all else as it was
+pub end-failed : (t : Transfer) → endedFE t false ≡ replied (withProgress (withCheck t noCheck) Idle (t .next) 0 noIdentity) (replyState (t .channel) 3)
+unfolding endedFE
+end-failed t = refl
 
-  -- "State 02 of the page is never sent"
-  pub never-state-02 : answerFE t channel area .reply ≡ padded maxReply (replyState channel 2) → ⊥
-  unfolding answerFE
-  never-state-02 =
-      let Other : Step → Type 0 = λ x. x .reply ≡ padded maxReply (replyState channel 2) → ⊥ in
-      of-both Other (not (receivingOrDone (t .phase)) || otherChannel t channel) _ _ (λ e. let z = state-of 3 2 e in omega arith)
-      (of-both Other (not (eqb (t .stored) (t .image .announced))) _ _ (λ e. let z = state-of 1 2 e in omega arith)
-      (of-both Other (rightCrc t area) _ _ (λ e. let z = state-of 0 2 e in omega arith) (λ e. let z = state-of 3 2 e in omega arith)))
+-- replies with another state are other replies
+state-of : (channel m n : ℕ) → padded maxReply (replyState channel m) ≡ padded maxReply (replyState channel n) → m ≡ n
+unfolding replyState
+state-of channel m n e = ap (λ (d : List ℕ). getD d 1 0) e
+
+-- a reply with this channel and state
+abbrev HasState : ℕ → ℕ → Step → Type 0
+HasState channel n x = (x .replies ≡ true) × (x .reply ≡ padded maxReply (replyState channel n))
+
+-- "State 02 of the page is never sent": neither at once nor at the end of the check
+pub never-state-02 : (t : Transfer) (channel : ℕ) → HasState channel 2 (answerFE t channel) → ⊥
+unfolding answerFE
+never-state-02 t channel =
+    let Other : Step → Type 0 = λ x. HasState channel 2 x → ⊥ in
+    of-both Other (not (receivingOrDone (t .phase)) || otherChannel t channel) _ _ (λ e. let z = state-of channel 3 2 (e .1) in omega arith)
+    (of-both Other (not (eqb (t .stored) (t .image .announced))) _ _ (λ e. let z = state-of channel 1 2 (e .1) in omega arith)
+    (λ e. let z : _≡_ {A = ℕ} 0 1 = cc in absurd (omega arith)))
+
+pub never-state-02-at-end : (t : Transfer) (right : Bool) → HasState (t .channel) 2 (endedFE t right) → ⊥
+unfolding endedFE
+never-state-02-at-end t true e = let z = state-of (t .channel) 0 2 (e .1) in omega arith
+never-state-02-at-end t false e = let z = state-of (t .channel) 3 2 (e .1) in omega arith

@@ -42,7 +42,7 @@ repeats t r p area =
     not (eqb (t .last) 0)
     && (eqb (r .number + 1) (t .next) && (eqb (r .size) (t .last) && (eqb (length p) (t .last) && same p (lastStored t area))))
 
--- the state replied; of the repeated packet "its CRC-16 must be right, else 03"
+-- the state replied; of the repeated packet: "Its CRC-16 must be right, else 03"
 unfoldable pub stateFD : Transfer → RequestFD → List ℕ → List ℕ → ℕ
 stateFD t r p area =
     cond (notReceivingHere t r) 4

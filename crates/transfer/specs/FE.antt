@@ -1,7 +1,9 @@
 -- 01, "How the session answers": "FE (demand 2's "open" is phase receiving, "just accepted" is done). Not receiving or done, or
 -- another channel: 03, nothing changes. Stored is not announced: 01, nothing changes. CRC-32 of the area's first announced bytes
--- differs: 03, phase idle, stored 0, identity all zero (its channel too). Otherwise 00, phase done." Assumes nothing.
-use mathlib.Core.Bool.{Bool, cond, not, _||_}
+-- differs: 03, phase idle, stored 0, identity all zero (its channel too). Otherwise 00, phase done." Document 02, K5: "An FE that gets
+-- as far as the CRC starts a check (outcome 0, no reply)"; its end "gives the verdict and FE's reply, makes FE's changes and zeroes the
+-- check's own fields". Assumes nothing.
+use mathlib.Core.Bool.{Bool, cond, not, _||_, _&&_}
 use mathlib.Core.List.{List}
 use Prim.Native.Nat.{ℕ}
 use lib.Dec.{eqb}
@@ -13,18 +15,28 @@ use Rattle.transfer.specs.declared.state.Transfer.{Transfer}
 use Rattle.transfer.specs.declared.state.Step.{Step}
 use Rattle.transfer.specs.Phases.{receivingOrDone}
 use Rattle.transfer.specs.Identities.{noIdentity}
-use Rattle.transfer.specs.Transfers.{withPhase, withProgress, otherChannel, replied}
+use Rattle.transfer.specs.Transfers.{noCheck, startedCheck, withPhase, withProgress, withCheck, otherChannel, replied, noted}
 
--- the CRC-32 of the area's first announced bytes is the announced one
-abbrev pub rightCrc : Transfer → List ℕ → Bool
-rightCrc t area = eqb (checksum crc32 (take (t .image .announced) area)) (t .image .crc)
+-- it "gets as far as the CRC"
+abbrev pub reachesCrc : Transfer → ℕ → Bool
+reachesCrc t channel = receivingOrDone (t .phase) && (not (otherChannel t channel) && eqb (t .stored) (t .image .announced))
 
-unfoldable pub answerFE : Transfer → ℕ → List ℕ → Step
-answerFE t channel area =
+unfoldable pub answerFE : Transfer → ℕ → Step
+answerFE t channel =
     cond (not (receivingOrDone (t .phase)) || otherChannel t channel)
     (replied t (replyState channel 3))
     (cond (not (eqb (t .stored) (t .image .announced)))
     (replied t (replyState channel 1))
-    (cond (rightCrc t area)
-    (replied (withPhase t Done) (replyState channel 0))
-    (replied (withProgress t Idle (t .next) 0 noIdentity) (replyState channel 3))))
+    (noted (withCheck t startedCheck)))
+
+-- the end of the check, by whether the CRC-32 is the announced one. The reply's channel is FE's: the session's.
+unfoldable pub endedFE : Transfer → Bool → Step
+endedFE t right =
+    let unchecked = withCheck t noCheck in
+    cond right
+    (replied (withPhase unchecked Done) (replyState (t .channel) 0))
+    (replied (withProgress unchecked Idle (t .next) 0 noIdentity) (replyState (t .channel) 3))
+
+-- in one go: the CRC-32 of the area's first announced bytes is the announced one
+abbrev pub rightCrc : Transfer → List ℕ → Bool
+rightCrc t area = eqb (checksum crc32 (take (t .image .announced) area)) (t .image .crc)

@@ -7,4 +7,5 @@ pub mod FB
 pub mod FC
 pub mod FD
 pub mod FE
+pub mod Portions
 pub mod Repeats

@@ -1,7 +1,7 @@
 -- Document 02, K2, "A lost reply must not cost the whole leg": an accepted packet that comes again is answered 00 and changes nothing,
--- whatever was lost in between, and a packet that differs from it in a byte never is. A lost frame does not come, and whether a reply
--- is heard is no part of a transfer: so all that can make a difference is what did come in between. That may be any packets but the
--- next, in any number. Assumes nothing.
+-- whatever was lost in between, and a packet that differs from it in a byte, the next one aside, never is. A lost frame does not come,
+-- and whether a reply is heard is no part of a transfer: so all that can make a difference is what did come in between. That may be any
+-- packets but the next, in any number. Assumes nothing.
 use mathlib.Core.Path.{_≡_}
 use mathlib.Core.Bool.{true, false}
 use mathlib.Core.List.{List, [], _∷_}
@@ -13,16 +13,18 @@ use Rattle.commands.specs.declared.request.RequestFC.{RequestFC}
 use Rattle.commands.specs.declared.request.RequestFD.{RequestFD}
 use Rattle.commands.specs.Replies.{replyState}
 use Rattle.transfer.specs.declared.board.Board.{Board}
+use Rattle.transfer.specs.declared.check.Check.{Check}
+use Rattle.transfer.specs.declared.check.Verdict.the-variants.{Unfinished}
 use Rattle.transfer.specs.declared.state.Transfer.{Transfer}
 use Rattle.transfer.specs.declared.state.Step.{Step}
-use Rattle.transfer.specs.Phases.{receivingOrDone}
 use Rattle.transfer.specs.Identities.{identityOf, sameIdentity}
 use Rattle.transfer.specs.Transfers.{replied, Sound}
 use Rattle.transfer.specs.FA.{answerFA}
 use Rattle.transfer.specs.FB.{stateFB, answerFB}
 use Rattle.transfer.specs.FC.{answerFC}
 use Rattle.transfer.specs.FD.{repeats, stateFD, takes, answerFD, areaFD}
-use Rattle.transfer.specs.FE.{rightCrc, answerFE}
+use Rattle.transfer.specs.FE.{answerFE, endedFE}
+use Rattle.transfer.specs.Portions.{stepBy}
 
 -- the fields of an FD and its bytes
 pub record Packet : Type 0 where
@@ -75,8 +77,11 @@ pub record LastLength (t : Transfer) : Type 0 where
   -- another identity in FB, and a failed end check
   pub fb-none : (b : Board) (r : RequestFB) (area : List ℕ) → answerFB t b r area .answered ≡ true → stateFB b r (length area) ≡ 0
       → sameIdentity (identityOf r) (t .image) ≡ false → answerFB t b r area .transfer .last ≡ 0
-  pub fe-none : (channel : ℕ) (area : List ℕ) → receivingOrDone (t .phase) ≡ true → channel ≡ t .channel → t .stored ≡ t .image .announced
-      → rightCrc t area ≡ false → answerFE t channel area .transfer .last ≡ 0
+  pub fe-none : endedFE t false .transfer .last ≡ 0
+  -- FE keeps it, and so do an unfinished portion and a right verdict
+  pub fe-kept : (channel : ℕ) → answerFE t channel .transfer .last ≡ t .last
+  pub on-kept : (c : Check) → stepBy Unfinished t c .transfer .last ≡ t .last
+  pub right-kept : endedFE t true .transfer .last ≡ t .last
   -- FA and FB with the same identity keep it
   pub fa-kept : (b : Board) (r : RequestFA) → answerFA t b r .transfer .last ≡ t .last
   pub fb-kept : (b : Board) (r : RequestFB) (area : List ℕ) → sameIdentity (identityOf r) (t .image) ≡ true → answerFB t b r area .transfer .last ≡ t .last

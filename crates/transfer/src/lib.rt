@@ -1,10 +1,11 @@
 // One transfer of an image to a board: its state, and what FA, FB, FC, FD and FE do to it, to the area and to the reply.
 //
 // Each command is a method of `Transfer` that takes it by value, with the request's fields, and hands back a `Step`: the next
-// transfer, the reply's data, and whether there is an answer at all. The session above has found the board and judged the record;
-// what it then knows of the transfer is `Sound`, which the methods that look at the area ask for. Nothing here knows the board list,
-// a frame's bytes or an outcome's number.
+// transfer, the reply's data, and whether there is an answer at all, and one with a reply. `Transfer::portion` goes on with the end check
+// that FE starts. The session above has found the board and judged the record; what it then knows of the transfer is `Sound`, which the
+// methods that look at the area ask for. Nothing here knows the board list, a frame's bytes or an outcome's number.
 pub mod board;
+pub mod check;
 mod compare;
 mod fa;
 mod fb;

@@ -58,7 +58,7 @@ pub(crate) fn is_receiving(p: Phase) -> bool
     }
 }
 
-pub(crate) fn is_receiving_or_done(p: Phase) -> bool
+pub fn is_receiving_or_done(p: Phase) -> bool
     ensures { λ r. ⌜ r ≡ receivingOrDone p ⌝ }
 {
     match p {

@@ -1,11 +1,12 @@
-// The state of a transfer, and the few ways in which a command changes it.
+// The state of a transfer, and the few ways in which a command or a portion of the end check changes it.
+use crate::check::Check;
 use crate::identity::Identity;
 use crate::phase::Phase;
 use commands::reply;
 ghost use mathlib.Core.Path.{_≡_};
 ghost use mathlib.Core.Bool.{true};
 ghost use Prim.Native.Nat.{_+_, _≤_};
-ghost use Rattle.transfer.specs.Transfers.{noTransfer, asked, withPhase, withProgress, afterPacket, replied, unanswered, otherChannel};
+ghost use Rattle.transfer.specs.Transfers.{noTransfer, asked, withPhase, withProgress, withCheck, afterPacket, noted, unanswered, otherChannel};
 
 pub struct Transfer {
     pub phase: Phase,
@@ -20,21 +21,37 @@ pub struct Transfer {
     // The length of the packet accepted last in this leg; 0 where there is none.
     pub last: usize,
     pub image: Identity,
+    pub check: Check,
 }
 
-// What a command makes of a transfer. Without an answer the transfer is the old one and the reply is zeros.
+// What a command or a portion makes of a transfer. Without an answer the transfer is the old one; without a reply its data is zeros.
 pub struct Step {
     pub answered: bool,
+    pub replies: bool,
     pub transfer: Transfer,
     pub reply: [u8; 26],
 }
 
 impl Step {
     pub(crate) fn replied(transfer: Transfer, reply: [u8; 26]) -> Step
-        ensures { λ r. ⌜ r ≡ record { answered = true; transfer = transfer; reply = reply } ⌝ }
+        ensures { λ r. ⌜ r ≡ record { answered = true; replies = true; transfer = transfer; reply = reply } ⌝ }
     {
         Step {
             answered: true,
+            replies: true,
+            transfer,
+            reply,
+        }
+    }
+
+    // Answered without a reply.
+    pub(crate) fn noted(transfer: Transfer) -> Step
+        ensures { λ r. ⌜ r ≡ noted transfer ⌝ }
+    {
+        let reply = reply::none();
+        Step {
+            answered: true,
+            replies: false,
             transfer,
             reply,
         }
@@ -46,6 +63,7 @@ impl Step {
         let reply = reply::none();
         Step {
             answered: false,
+            replies: false,
             transfer,
             reply,
         }
@@ -57,6 +75,7 @@ impl Transfer {
         ensures { λ r. ⌜ r ≡ noTransfer ⌝ }
     {
         let image = Identity::none();
+        let check = Check::none();
         Transfer {
             phase: Phase::Idle,
             channel: 0,
@@ -65,6 +84,7 @@ impl Transfer {
             stored: 0,
             last: 0,
             image,
+            check,
         }
     }
 
@@ -72,6 +92,7 @@ impl Transfer {
         ensures { λ r. ⌜ r ≡ asked self channel agreed ⌝ }
     {
         let image = self.image;
+        let check = self.check;
         Transfer {
             phase: Phase::Asked,
             channel,
@@ -80,6 +101,7 @@ impl Transfer {
             stored: self.stored,
             last: self.last,
             image,
+            check,
         }
     }
 
@@ -87,6 +109,7 @@ impl Transfer {
         ensures { λ r. ⌜ r ≡ withPhase self phase ⌝ }
     {
         let image = self.image;
+        let check = self.check;
         Transfer {
             phase,
             channel: self.channel,
@@ -95,10 +118,11 @@ impl Transfer {
             stored: self.stored,
             last: self.last,
             image,
+            check,
         }
     }
 
-    // A leg begins (FC), or what is stored is dropped (another identity in FB, a failed end check in FE): no packet is the last one.
+    // A leg begins (FC), or what is stored is dropped (another identity in FB, a failed end check): no packet is the last one.
     pub(crate) fn with_progress(
         self,
         phase: Phase,
@@ -109,6 +133,7 @@ impl Transfer {
         ensures { λ r. ⌜ r ≡ withProgress self phase next stored image ⌝ }
     {
         let last = 0;
+        let check = self.check;
         Transfer {
             phase,
             channel: self.channel,
@@ -117,6 +142,24 @@ impl Transfer {
             stored,
             last,
             image,
+            check,
+        }
+    }
+
+    pub(crate) fn with_check(self, check: Check) -> Transfer
+        ensures { λ r. ⌜ r ≡ withCheck self check ⌝ }
+    {
+        let phase = self.phase;
+        let image = self.image;
+        Transfer {
+            phase,
+            channel: self.channel,
+            agreed: self.agreed,
+            next: self.next,
+            stored: self.stored,
+            last: self.last,
+            image,
+            check,
         }
     }
 
@@ -127,6 +170,7 @@ impl Transfer {
     {
         let phase = self.phase;
         let image = self.image;
+        let check = self.check;
         Transfer {
             phase,
             channel: self.channel,
@@ -135,6 +179,7 @@ impl Transfer {
             stored: self.stored + n,
             last: n,
             image,
+            check,
         }
     }
 

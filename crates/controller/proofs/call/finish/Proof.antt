@@ -28,7 +28,7 @@ returns c =
     let args = c .before .before .before .before .before .before .before .before .before .before .before .before .before .before .before .args in
     record {
       gives = simp (found, w .gives, a .0);
-      leaves-room = rw found (w .leaves ∙ ap (λ (x : Answer). replyRoomOf (x .outcome) (args .f .frame .command) (x .reply) (args .room .now)) (a .0));
+      leaves-room = rw found (w .leaves ∙ ap (λ (x : Answer). replyRoomOf (x .replies) (args .f .frame .command) (x .reply) (args .room .now)) (a .0));
       leaves-area = rw found (a .1);
     }
 

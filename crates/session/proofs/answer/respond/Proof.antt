@@ -78,19 +78,16 @@ channel-requires c κs = search needs
 fe-requires : tie.Need-fe-requires
 fe-requires c κs = search needs
 
-same-length-3 : tie.Need-same-length-3
-same-length-3 c = search needs
-
 returns-5 : tie.Need-returns-5
 unfolding stepOf areaOf
 returns-5 c =
-    let not-fd = ne-eqb _ _ (c .before .before .before .before .if4 .left) in (
+    let not-fd = ne-eqb _ _ (c .before .before .before .if4 .left) in (
       simp (
-        ne-eqb _ _ (c .before .before .before .before .before .before .before .if1 .left),
-        ne-eqb _ _ (c .before .before .before .before .before .before .if2 .left),
-        ne-eqb _ _ (c .before .before .before .before .before .if3 .left),
+        ne-eqb _ _ (c .before .before .before .before .before .before .if1 .left),
+        ne-eqb _ _ (c .before .before .before .before .before .if2 .left),
+        ne-eqb _ _ (c .before .before .before .before .if3 .left),
         not-fd,
-        c .before .before .channel .ensures,
+        c .before .channel .ensures,
         c .fe .ensures,
       ),
       simp not-fd,
@@ -117,5 +114,4 @@ respond-spec =
     returns-4
     channel-requires
     fe-requires
-    same-length-3
     returns-5)

@@ -8,7 +8,7 @@ is-idle-requires : tie.Need-is-idle-requires
 is-idle-requires c κs = search needs
 
 returns : tie.Need-returns
-returns c = search needs
+returns c = simp (← c .before .is-idle .ensures, c .if1 .taken)
 
 place-of-requires : tie.Need-place-of-requires
 place-of-requires c κs = search needs

@@ -1,11 +1,12 @@
 -- `replay::run::Run::after` meets its contract. Assumes nothing.
 use borrow.Author.Needs.{needs}
-use borrow.Author.Tests.{eq-eqb, ne-eqb}
-use mathlib.Core.Path.{refl, subst}
+use mathlib.Core.Path.{refl, sym, subst, _∙_}
+use mathlib.Core.Bool.{false≢true}
 use mathlib.Core.List.{List}
 use Prim.Native.Nat.{ℕ}
+use lib.ListN.{take}
 use Rattle.text.specs.Outputs.{TextAdded}
-use Rattle.replay.specs.Texts.{textOf}
+use Rattle.replay.specs.Texts.{textOf, FrameText}
 use Rattle.replay.proofs.run.Run.after.Statement.{statement}
 use Rattle.replay.proofs.run.Run.after.Tie as tie
 
@@ -18,21 +19,25 @@ plus-requires c κs = search needs
 plus-requires-2 : tie.Need-plus-requires-2
 plus-requires-2 c κs = search needs
 
+line-waits-requires : tie.Need-line-waits-requires
+line-waits-requires c κs = search needs
+
 returns : tie.Need-returns
 returns c =
     let place = c .before .before .before .before .plus in
+    let waits = sym (c .before .line-waits .ensures) ∙ c .if1 .taken in
     record {
       keeps = refl;
       goes-on = refl;
-      passes = simp (eq-eqb _ _ (c .if1 .taken), place .ensures);
+      passes = simp (waits, place .ensures);
       drops = c .before .before .before .plus2 .ensures;
       takes = c .before .before .before .before .before .wrapping-add-usize .ensures;
       ends = refl;
-      writes = record { nothing = λ _. (refl, refl); line = λ n. absurd (n (c .if1 .taken)) };
+      writes = record { nothing = λ _. (refl, refl); line = λ due. absurd (false≢true (sym due ∙ waits)) };
     }
 
-line-of-requires : tie.Need-line-of-requires
-line-of-requires c κs = search needs
+line-at-requires : tie.Need-line-at-requires
+line-at-requires c κs = search needs
 
 slice-aggregate-front : tie.Need-slice-aggregate-front
 slice-aggregate-front c = search needs
@@ -51,20 +56,22 @@ plus-requires-4 c κs = search needs
 
 returns-2 : tie.Need-returns-2
 returns-2 c =
-    let line = c .before .before .before .before .before .before .before .line-of in
+    let line = c .before .before .before .before .before .before .before .line-at in
     let tested = c .before .before .before .before .before .before .before .before in
+    let due = sym (tested .before .line-waits .ensures) ∙ tested .if1 .left in
     let dropped = tested .before .before .before in
     let place = dropped .before .plus in
     let a = dropped .before .before .before .before .args in
     let added = subst (λ (s : List ℕ). TextAdded (a .self .lines) s (a .output .now) (c .before .before .text .result) (c .before .before .text .last .1 .1 .0)) (c .before .before .before .before .front .ensures) (c .before .before .text .ensures) in
+    let said = subst (λ (p : ℕ). FrameText p (a .c .command) (a .c .outcome) (take (a .c .«reply_length») (a .room .now)) (textOf (line .result))) (place .ensures) (line .ensures) in
     record {
       keeps = refl;
       goes-on = refl;
-      passes = simp (ne-eqb _ _ (tested .if1 .left), c .plus4 .ensures, c .before .plus3 .ensures, place .ensures);
+      passes = simp (due, c .plus4 .ensures, c .before .plus3 .ensures, place .ensures);
       drops = dropped .plus2 .ensures;
       takes = dropped .before .before .wrapping-add-usize .ensures;
       ends = refl;
-      writes = record { nothing = λ e. absurd (tested .if1 .left e); line = λ _. record { text = textOf (line .result); says = line .ensures; adds = added } };
+      writes = record { nothing = λ waits. absurd (false≢true (sym due ∙ waits)); line = λ _. record { text = textOf (line .result); says = said; adds = added } };
     }
 
 pub after-spec : {M : Type 1} → statement M
@@ -74,8 +81,9 @@ after-spec =
     wrapping-add-usize-requires
     plus-requires
     plus-requires-2
+    line-waits-requires
     returns
-    line-of-requires
+    line-at-requires
     slice-aggregate-front
     front-requires
     text-requires

@@ -1,19 +1,40 @@
--- `replay::run::Run::turn` meets its contract: each stage has its own. Assumes nothing.
+-- `replay::run::Run::turn` meets its contract: a check has its own, and so has each stage. Assumes nothing.
 use borrow.Author.Needs.{needs}
-use mathlib.Core.Path.{_≡_, refl, sym, subst}
+use mathlib.Core.Path.{_≡_, refl, sym, subst, _∙_}
+use mathlib.Core.Bool.{Bool, true, false}
 use mathlib.Core.List.{List}
 use Prim.Native.Nat.{ℕ}
 use Rattle.replay.specs.declared.run.Run.{Run}
 use Rattle.replay.specs.declared.run.Stage.{Stage}
-use Rattle.replay.specs.Runs.{Turned}
+use Rattle.replay.specs.Runs.{Turned, checking}
 use Rattle.replay.proofs.run.Run.turn.Statement.{statement}
 use Rattle.replay.proofs.run.Run.turn.Tie as tie
 
--- what holds in a stage holds of a run that is in it
 module _ (c : tie.Start) (r : Run) (input′ after area : List ℕ) where
-  in-stage : (s : Stage) → c .args .self .stage ≡ s → Turned s (c .args .self) (c .args .input .now) (c .args .output .now) (c .args .area .now) r input′ after area
-      → Turned (c .args .self .stage) (c .args .self) (c .args .input .now) (c .args .output .now) (c .args .area .now) r input′ after area
-  in-stage s e t = subst (λ (x : Stage). Turned x (c .args .self) (c .args .input .now) (c .args .output .now) (c .args .area .now) r input′ after area) (sym e) t
+  abbrev Turns : Bool → Stage → Type 0
+  Turns b s = Turned b s (c .args .self) (c .args .input .now) (c .args .output .now) (c .args .area .now) r input′ after area
+
+  -- what holds while a check runs holds of a run whose check runs,
+  in-check : checking (c .args .self) ≡ true → Turns true (c .args .self .stage) → Turns (checking (c .args .self)) (c .args .self .stage)
+  in-check e t = subst (λ (b : Bool). Turns b (c .args .self .stage)) (sym e) t
+
+  -- and else what holds in a stage of a run that is in it
+  in-stage : (s : Stage) → checking (c .args .self) ≡ false → c .args .self .stage ≡ s → Turns false s → Turns (checking (c .args .self)) (c .args .self .stage)
+  in-stage s none e t = subst (λ (b : Bool). Turns b (c .args .self .stage)) (sym none) (subst (λ (x : Stage). Turns false x) (sym e) t)
+
+is-checking-requires : tie.Need-is-checking-requires
+is-checking-requires c κs = search needs
+
+check-requires : tie.Need-check-requires
+check-requires c κs = search needs
+
+same-length : tie.Need-same-length
+same-length c = search needs
+
+returns : tie.Need-returns
+returns c =
+    let asked = c .before .before .before .before in
+    in-check (asked .before .before .before) _ _ _ _ (sym (asked .is-checking .ensures) ∙ c .before .before .before .if1 .taken) (c .check .ensures, (refl, refl))
 
 enum-told : tie.Need-enum-told
 enum-told c = search needs
@@ -33,51 +54,55 @@ enum-told-3 c = search needs
 enum-told-4 : tie.Need-enum-told-4
 enum-told-4 c = search needs
 
-same-length : tie.Need-same-length
-same-length c = search needs
-
 same-length-2 : tie.Need-same-length-2
 same-length-2 c = search needs
-
-returns : tie.Need-returns
-returns c =
-    let told = c .before .before .before .before .before .before .before .before in
-    let o = told .before .before .before .before in
-    in-stage o _ _ _ _ _ (told .enum-told .given .1) (c .before .before .before .before .feed .ensures)
 
 same-length-3 : tie.Need-same-length-3
 same-length-3 c = search needs
 
 returns-2 : tie.Need-returns-2
 returns-2 c =
-    let told = c .before .before .before .before .before in
-    let o = told .before .before .before .before in
-    in-stage o _ _ _ _ _ (told .enum-told2 .given .1) (c .before .before .quiet .ensures, refl)
+    let told = c .before .before .before .before .before .before .before .before in
+    let asked = told .before .before .before in
+    in-stage (asked .before .before .before) _ _ _ _ _ (sym (asked .is-checking .ensures) ∙ told .before .before .if1 .left) (told .enum-told .given .1) (c .before .before .before .before .feed .ensures)
+
+same-length-4 : tie.Need-same-length-4
+same-length-4 c = search needs
 
 returns-3 : tie.Need-returns-3
 returns-3 c =
-    let o = c .before .before .before .before in
-    in-stage o _ _ _ _ _ (c .enum-told3 .given .1) (refl, (refl, (refl, refl)))
+    let told = c .before .before .before .before .before in
+    let asked = told .before .before .before in
+    in-stage (asked .before .before .before) _ _ _ _ _ (sym (asked .is-checking .ensures) ∙ told .before .before .if1 .left) (told .enum-told2 .given .1) (c .before .before .quiet .ensures, refl)
 
 returns-4 : tie.Need-returns-4
 returns-4 c =
-    let o = c .before .before .before .before in
-    in-stage o _ _ _ _ _ (c .enum-told4 .given .1) (refl, (refl, (refl, refl)))
+    let asked = c .before .before .before in
+    in-stage (asked .before .before .before) _ _ _ _ _ (sym (asked .is-checking .ensures) ∙ c .before .before .if1 .left) (c .enum-told3 .given .1) (refl, (refl, (refl, refl)))
+
+returns-5 : tie.Need-returns-5
+returns-5 c =
+    let asked = c .before .before .before in
+    in-stage (asked .before .before .before) _ _ _ _ _ (sym (asked .is-checking .ensures) ∙ c .before .before .if1 .left) (c .enum-told4 .given .1) (refl, (refl, (refl, refl)))
 
 pub turn-spec : {M : Type 1} → statement M
 turn-spec =
     tie.close
     (tie.spec
+    is-checking-requires
+    check-requires
+    same-length
+    returns
     enum-told
     feed-requires
     enum-told-2
     quiet-requires
     enum-told-3
     enum-told-4
-    same-length
     same-length-2
-    returns
     same-length-3
     returns-2
+    same-length-4
     returns-3
-    returns-4)
+    returns-4
+    returns-5)

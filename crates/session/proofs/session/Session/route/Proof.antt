@@ -1,11 +1,8 @@
 -- `session::session::Session::route` meets its contract. Assumes nothing.
 use borrow.Author.Needs.{needs}
-use mathlib.Core.Path.{_≡_, sym, ap, ap₂, _∙_}
 use native.Mathlib.Omega.{arith}
 use borrow.Author.Tests.{eq-eqb, ne-eqb, lt-ltb, le-ltb}
-use Rattle.transfer.specs.declared.state.Step.{Step}
-use Rattle.transfer.specs.declared.board.Board.{Board}
-use Rattle.session.specs.Answering.{stepped, stepOf, areaOf, routed, routedArea}
+use Rattle.session.specs.Answering.{stepped, routed, routedArea}
 use Rattle.session.proofs.Lawfuls.{lawful-sound, lawful-count}
 use Rattle.session.proofs.session.Session.route.Statement.{statement}
 use Rattle.session.proofs.session.Session.route.Tie as tie
@@ -20,8 +17,31 @@ returns c = let is = eq-eqb _ _ (c .before .if1 .taken) in (rw is (c .unchanged 
 place-for-requires : tie.Need-place-for-requires
 place-for-requires c κs = lawful-count _ (c .before .before .before .pre .0)
 
+unchanged-requires-2 : tie.Need-unchanged-requires-2
+unchanged-requires-2 c κs = search needs
+
+returns-2 : tie.Need-returns-2
+unfolding routed routedArea
+returns-2 c =
+    let not-f9 = ne-eqb _ _ (c .before .before .before .before .if1 .left) in
+    let place = c .before .before .before .place-for .ensures .0 in
+    let unlisted = le-ltb _ _ (c .before .if2 .taken) in
+    (simp (not-f9, ← place, unlisted, c .unchanged2 .ensures), simp (not-f9, ← place, unlisted))
+
+unchanged-requires-3 : tie.Need-unchanged-requires-3
+unchanged-requires-3 c κs = search needs
+
+returns-3 : tie.Need-returns-3
+unfolding routed routedArea
+returns-3 c =
+    let not-f9 = ne-eqb _ _ (c .before .before .before .before .before .if1 .left) in
+    let place = c .before .before .before .before .place-for .ensures .0 in
+    let listed = lt-ltb _ _ (c .before .before .if2 .left) in
+    let runs = c .before .if3 .taken in
+    (simp (not-f9, ← place, listed, runs, c .unchanged3 .ensures), simp (not-f9, ← place, listed, runs))
+
 board-at-requires : tie.Need-board-at-requires
-board-at-requires c κs = omega (arith, lawful-count _ (c .before .before .before .before .before .before .before .pre .0))
+board-at-requires c κs = omega (arith, lawful-count _ (c .before .before .before .before .before .before .before .before .pre .0))
 
 respond-requires : tie.Need-respond-requires
 respond-requires c κs = lawful-sound _ _ (c .before .before .before .before .before .before .before .before .before .before .pre .0) (c .before .before .before .before .before .before .before .before .before .before .pre .1)
@@ -32,26 +52,16 @@ stepped-requires c κs = search needs
 same-length : tie.Need-same-length
 same-length c = search needs
 
-returns-2 : tie.Need-returns-2
+returns-4 : tie.Need-returns-4
 unfolding routed routedArea
-returns-2 c =
+returns-4 c =
     let not-f9 = ne-eqb _ _ (c .before .before .before .before .before .before .before .before .before .before .before .if1 .left) in
     let place = c .before .before .before .before .before .before .before .before .before .before .place-for .ensures .0 in
-    let listed = lt-ltb _ _ (c .before .before .before .before .before .before .before .before .if2 .taken) in
-    let board = c .before .before .before .before .before .before .board-at .ensures in
+    let listed = lt-ltb _ _ (c .before .before .before .before .before .before .before .before .if2 .left) in
+    let still = c .before .before .before .before .before .before .before .if3 .left in
+    let board = c .before .before .before .before .before .board-at .ensures in
     let step = c .before .before .before .respond .ensures in
-    (simp (not-f9, ← place, listed, c .stepped .ensures, step .0, board), simp (not-f9, ← place, listed, step .1))
-
-unchanged-requires-2 : tie.Need-unchanged-requires-2
-unchanged-requires-2 c κs = search needs
-
-returns-3 : tie.Need-returns-3
-unfolding routed routedArea
-returns-3 c =
-    let not-f9 = ne-eqb _ _ (c .before .before .before .before .if1 .left) in
-    let place = c .before .before .before .place-for .ensures .0 in
-    let unlisted = le-ltb _ _ (c .before .if2 .left) in
-    (simp (not-f9, ← place, unlisted, c .unchanged2 .ensures), simp (not-f9, ← place, unlisted))
+    (simp (not-f9, ← place, listed, still, c .stepped .ensures, step .0, board), simp (not-f9, ← place, listed, still, step .1))
 
 pub route-spec : {M : Type 1} → statement M
 route-spec =
@@ -60,10 +70,12 @@ route-spec =
     unchanged-requires
     returns
     place-for-requires
+    unchanged-requires-2
+    returns-2
+    unchanged-requires-3
+    returns-3
     board-at-requires
     respond-requires
     stepped-requires
     same-length
-    returns-2
-    unchanged-requires-2
-    returns-3)
+    returns-4)

@@ -34,12 +34,19 @@ returns-4 : tie.Need-returns-4
 unfolding unlawful
 returns-4 c = simp (← c .before .before .before .before .before .before .before .bad-list .ensures, c .before .before .before .before .before .before .if1 .left, ← c .before .before .before .before .before .bad-area .ensures, c .before .before .before .before .if2 .left, ← c .before .before .before .bad-lengths .ensures, c .before .before .if3 .left, ← c .before .bad-last .ensures, c .if4 .taken)
 
-bad-session-fields-requires : tie.Need-bad-session-fields-requires
-bad-session-fields-requires c κs = list-fits _ _ (sym (c .before .before .before .before .before .before .before .bad-list .ensures) ∙ c .before .before .before .before .before .before .if1 .left)
+bad-check-requires : tie.Need-bad-check-requires
+bad-check-requires c κs = search needs
 
 returns-5 : tie.Need-returns-5
 unfolding unlawful
-returns-5 c = simp (← c .before .before .before .before .before .before .before .before .bad-list .ensures, c .before .before .before .before .before .before .before .if1 .left, ← c .before .before .before .before .before .before .bad-area .ensures, c .before .before .before .before .before .if2 .left, ← c .before .before .before .before .bad-lengths .ensures, c .before .before .before .if3 .left, ← c .before .before .bad-last .ensures, c .before .if4 .left, ← c .bad-session-fields .ensures)
+returns-5 c = simp (← c .before .before .before .before .before .before .before .before .before .bad-list .ensures, c .before .before .before .before .before .before .before .before .if1 .left, ← c .before .before .before .before .before .before .before .bad-area .ensures, c .before .before .before .before .before .before .if2 .left, ← c .before .before .before .before .before .bad-lengths .ensures, c .before .before .before .before .if3 .left, ← c .before .before .before .bad-last .ensures, c .before .before .if4 .left, ← c .before .bad-check .ensures, c .if5 .taken)
+
+bad-session-fields-requires : tie.Need-bad-session-fields-requires
+bad-session-fields-requires c κs = list-fits _ _ (sym (c .before .before .before .before .before .before .before .before .before .bad-list .ensures) ∙ c .before .before .before .before .before .before .before .before .if1 .left)
+
+returns-6 : tie.Need-returns-6
+unfolding unlawful
+returns-6 c = simp (← c .before .before .before .before .before .before .before .before .before .before .bad-list .ensures, c .before .before .before .before .before .before .before .before .before .if1 .left, ← c .before .before .before .before .before .before .before .before .bad-area .ensures, c .before .before .before .before .before .before .before .if2 .left, ← c .before .before .before .before .before .before .bad-lengths .ensures, c .before .before .before .before .before .if3 .left, ← c .before .before .before .before .bad-last .ensures, c .before .before .before .if4 .left, ← c .before .before .bad-check .ensures, c .before .if5 .left, ← c .bad-session-fields .ensures)
 
 pub unlawful-spec : {M : Type 1} → statement M
 unlawful-spec =
@@ -53,5 +60,7 @@ unlawful-spec =
     returns-3
     bad-last-requires
     returns-4
+    bad-check-requires
+    returns-5
     bad-session-fields-requires
-    returns-5)
+    returns-6)

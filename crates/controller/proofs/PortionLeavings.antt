@@ -1,0 +1,168 @@
+-- What each outcome of a portion call leaves. Assumes nothing.
+use mathlib.Core.Path.{_≡_, refl, sym, ap, _∙_, subst}
+use mathlib.Core.Bool.{Bool, true, false, cond}
+use mathlib.Core.Logic.{_↔_, _⊎_, ⊎-elim}
+use mathlib.Core.List.{List, [], _∷_}
+use Prim.Native.Nat.{ℕ, _+_, _≤_, _<_}
+use native.Mathlib.Omega.{arith}
+use borrow.Author.Tests.{eqb-true, eqb-false, ltb-true}
+use lib.Dec.{ltb, eqb}
+use lib.ListN.{length}
+use lib.Seq.{length-slice}
+use Rattle.frames.proofs.Orders.{lt-or-le}
+use Rattle.frames.proofs.Choices.{of-each}
+use Rattle.transfer.specs.declared.state.Transfer.{Transfer}
+use Rattle.transfer.specs.Transfers.{noCheck}
+use Rattle.transfer.specs.FE.{endedFE}
+use Rattle.transfer.specs.Portions.{unread, portionSize, portionOf}
+use Rattle.transfer.proofs.Slices.{willSay}
+use Rattle.session.specs.declared.session.Session.{Session}
+use Rattle.session.specs.declared.check.Checked.{Checked}
+use Rattle.session.specs.Lawful.{unlawful}
+use Rattle.session.specs.Checking.{checked}
+use Rattle.session.proofs.Lawfuls.{lawful as lawful-session}
+use Rattle.session.proofs.Checks.{is-portion, unended, finished-by}
+use Rattle.controller.specs.declared.record.Record.{Record}
+use Rattle.controller.specs.Records.{unlawfulRecord}
+use Rattle.controller.specs.Calls.{minRoom, refusalOf}
+use Rattle.controller.specs.Portions.{refusedPortion, checkedPortion, portionCall}
+use Rattle.controller.specs.Leaving.{IsRefusal, IsPortionRefusal, Counted, PortionOutcomes, PortionLeaving}
+use Rattle.controller.proofs.Refusals.{lawful-record, Accepted, accepted-of, accepts, six-given, five-given}
+use Rattle.controller.proofs.Settling.{verdict-answers, ended-reply, verdict-reply}
+use Rattle.controller.proofs.Keeping.{portion-refused, portion-accepted, no-check}
+use Rattle.controller.proofs.Leavings.{refusal-is, nine-given, nine-only}
+
+true-false : {A : Type 0} → true ≡ false → A
+true-false e = let z : _≡_ {A = ℕ} 0 1 = cc in absurd (omega arith)
+
+smaller : (m n : ℕ) → cond (ltb m n) m n ≤ n
+smaller m n = of-each (λ (k : ℕ). k ≤ n) (ltb m n) m n (λ e. let h = ltb-true m n e in omega arith) (λ _. omega arith)
+
+ended-none : (t : Transfer) (right : Bool) → endedFE t right .transfer .check ≡ noCheck
+unfolding endedFE
+ended-none t true = refl
+ended-none t false = refl
+
+no-refusal : (n : ℕ) → (n ≡ 5 → ⊥) → (n ≡ 6 → ⊥) → (n ≡ 9 → ⊥) → (n ≡ 18 → ⊥) → IsPortionRefusal n → ⊥
+no-refusal n a b c d e = ⊎-elim (λ w. ⊎-elim a (λ v. ⊎-elim b c v) w) d e
+
+module _ (most : ℕ) (r : Record) (room area : List ℕ) where
+  abbrev code : ℕ
+  code = refusalOf r (length room) (length area)
+
+  -- 9, 6, 5
+  refused-leaves : eqb code 0 ≡ false → PortionOutcomes most r room area (record { called = refusedPortion code r; room = room })
+  refused-leaves e =
+      let nonzero = eqb-false code 0 e in
+      record {
+        nine = (λ z. nine-only r (length room) (length area) z, λ z. nine-given r (length room) (length area) z);
+        six = λ ok. six-given r (length room) (length area) ok;
+        five = λ ok size. five-given r (length room) (length area) ok size;
+        eighteen = λ ok size wide. absurd (nonzero (accepts r (length room) (length area) (record { lawful = ok; size = size; wide = wide })));
+        refused = λ _. refl;
+        unfinished = λ z. absurd (known (refusal-is r (length room) (length area) nonzero) z);
+        finished = λ z. absurd (nonzero z);
+        counted = λ z. absurd (nonzero z);
+        same-reader = refl;
+      }
+    where
+      known : IsRefusal code → code ≡ 19 → ⊥
+      known w z = ⊎-elim (λ a. omega arith) (λ v. ⊎-elim (λ b. omega arith) (λ c. omega arith) v) w
+
+  -- not refused, by the session's part
+  module _ (a : Accepted r (length room) (length area)) where
+    not-nine : (n : ℕ) → (n ≡ 9 → ⊥) → (n ≡ 9) ↔ (unlawfulRecord r ≡ true)
+    not-nine n h = (λ z. absurd (h z), λ z. true-false (sym z ∙ a .lawful))
+
+    not-six : (n : ℕ) → (n ≡ 6 → ⊥) → (n ≡ 6) ↔ (length area ≡ r .session .opened → ⊥)
+    not-six n h = (λ z. absurd (h z), λ z. absurd (z (a .size)))
+
+    not-five : (n : ℕ) → (n ≡ 5 → ⊥) → (n ≡ 5) ↔ (length room < minRoom)
+    not-five n h = (λ z. absurd (h z), λ z. absurd (omega (arith, a .wide, z)))
+
+    still-leaves : r .session .transfer .check .running ≡ false → PortionOutcomes most r room area (record { called = refusedPortion 18 r; room = room })
+    still-leaves still =
+        record {
+          nine = not-nine 18 (λ z. omega arith);
+          six = λ _. not-six 18 (λ z. omega arith);
+          five = λ _ _. not-five 18 (λ z. omega arith);
+          eighteen = λ _ _ _. (λ _. still, λ _. refl);
+          refused = λ _. refl;
+          unfinished = λ z. absurd (omega arith);
+          finished = λ z. absurd (omega arith);
+          counted = λ _ runs. true-false (sym runs ∙ still);
+          same-reader = refl;
+        }
+
+    abbrev s : Session
+    s = r .session
+
+    lawful : unlawful s ≡ false
+    lawful = lawful-record r (a .lawful) .session
+
+    accepted-is : eqb code 0 ≡ true → (c : Checked) → checked s most area ≡ c → portionCall most r room area ≡ checkedPortion c r room
+    accepted-is e c is = portion-accepted most r room area e ∙ ap (λ (x : Checked). checkedPortion x r room) is
+
+    -- the count is the definition's
+    counts : eqb code 0 ≡ true → s .transfer .check .running ≡ true → Counted most (s .transfer) area (portionCall most r room area)
+    unfolding portionOf
+    counts e runs =
+        let t = s .transfer in
+        let l = lawful-session s lawful in
+        let n = portionSize t most in
+        let size : n ≤ unread t = smaller most (unread t) in
+        let bytes = length-slice (t .check .read) (t .check .read + n) area (omega (arith, l .check-unread runs, l .announced, a .size, size)) in
+        subst (Counted most t area) (sym (accepted-is e _ (is-portion s most area lawful (a .size) runs)))
+        (record { amount = refl; bytes = omega (arith, bytes); says = refl; becomes = refl; number = refl })
+
+    running-leaves : eqb code 0 ≡ true → s .transfer .check .running ≡ true → PortionOutcomes most r room area (portionCall most r room area)
+    running-leaves e runs = ⊎-elim goes ends (lt-or-le most (unread (s .transfer)))
+      where
+        goes : most < unread (s .transfer) → PortionOutcomes most r room area (portionCall most r room area)
+        goes h =
+            subst (PortionOutcomes most r room area) (sym (accepted-is e _ (unended s most area lawful (a .size) runs h .is)))
+            (record {
+              nine = not-nine 19 (λ z. omega arith);
+              six = λ _. not-six 19 (λ z. omega arith);
+              five = λ _ _. not-five 19 (λ z. omega arith);
+              eighteen = λ _ _ _. (λ z. absurd (omega arith), λ z. true-false (sym runs ∙ z));
+              refused = λ w. absurd (no-refusal 19 (λ z. omega arith) (λ z. omega arith) (λ z. omega arith) (λ z. omega arith) w);
+              unfinished = λ _. (refl, (refl, refl));
+              finished = λ z. absurd (omega arith);
+              counted = λ _ _. subst (Counted most (s .transfer) area) (accepted-is e _ (unended s most area lawful (a .size) runs h .is)) (counts e runs);
+              same-reader = refl;
+            })
+
+        -- the verdict is outcome 0
+        ends : unread (s .transfer) ≤ most → PortionOutcomes most r room area (portionCall most r room area)
+        ends h =
+            let zero = verdict-answers (willSay (s .transfer) area) in
+            subst (PortionOutcomes most r room area) (sym (accepted-is e _ (finished-by s most area lawful (a .size) runs h .is)))
+            (record {
+              nine = not-nine _ (λ z. let y = sym zero ∙ z in omega arith);
+              six = λ _. not-six _ (λ z. let y = sym zero ∙ z in omega arith);
+              five = λ _ _. not-five _ (λ z. let y = sym zero ∙ z in omega arith);
+              eighteen = λ _ _ _. (λ z. absurd (let y = sym zero ∙ z in omega arith), λ z. true-false (sym runs ∙ z));
+              refused = λ w. absurd (no-refusal _ (λ z. let y = sym zero ∙ z in omega arith) (λ z. let y = sym zero ∙ z in omega arith) (λ z. let y = sym zero ∙ z in omega arith) (λ z. let y = sym zero ∙ z in omega arith) w);
+              unfinished = λ z. absurd (let y = sym zero ∙ z in omega arith);
+              finished = λ _. (
+                ended-none (s .transfer) (willSay (s .transfer) area),
+                verdict-reply (s .transfer) (willSay (s .transfer) area) room (a .wide) ∙ ap (λ (l : List ℕ). l ∷ []) (ended-reply (s .transfer) (willSay (s .transfer) area)),
+              );
+              counted = λ _ _. subst (Counted most (s .transfer) area) (accepted-is e _ (finished-by s most area lawful (a .size) runs h .is)) (counts e runs);
+              same-reader = refl;
+            })
+
+    accepted-leaves : eqb code 0 ≡ true → PortionOutcomes most r room area (portionCall most r room area)
+    accepted-leaves e = go (s .transfer .check .running) refl
+      where
+        go : (b : Bool) → s .transfer .check .running ≡ b → PortionOutcomes most r room area (portionCall most r room area)
+        go true runs = running-leaves e runs
+        go false still = subst (PortionOutcomes most r room area) (sym (accepted-is e _ (no-check s most area lawful (a .size) still))) (still-leaves still)
+
+pub portion-leaving : PortionLeaving
+portion-leaving most r room area = go (eqb (refusalOf r (length room) (length area)) 0) refl
+  where
+    go : (b : Bool) → eqb (refusalOf r (length room) (length area)) 0 ≡ b → PortionOutcomes most r room area (portionCall most r room area)
+    go false e = subst (PortionOutcomes most r room area) (sym (portion-refused most r room area e)) (refused-leaves most r room area e)
+    go true e = accepted-leaves most r room area (accepted-of r (length room) (length area) (eqb-true _ _ e)) e

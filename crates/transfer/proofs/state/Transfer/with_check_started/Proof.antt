@@ -1,0 +1,15 @@
+-- `transfer::state::Transfer::with_check_started` meets its contract. Assumes nothing.
+use borrow.Author.Needs.{needs}
+use Rattle.crc.specs.Crc.{crc32}
+use Rattle.transfer.proofs.state.Transfer.with_check_started.Statement.{statement}
+use Rattle.transfer.proofs.state.Transfer.with_check_started.Tie as tie
+
+with-check-requires : tie.Need-with-check-requires
+with-check-requires c κs = search needs
+
+returns : tie.Need-returns
+unfolding crc32
+returns c = c .with-check .ensures
+
+pub with-check-started-spec : {M : Type 1} → statement M
+with-check-started-spec = tie.close (tie.spec with-check-requires returns)
