@@ -2,12 +2,12 @@
 use mathlib.Core.Path.{_≡_, refl, sym, ap, _∙_, subst}
 use mathlib.Core.Bool.{Bool, true, false, cond}
 use mathlib.Core.Logic.{_↔_, _⊎_, ⊎-elim}
-use mathlib.Core.List.{List, [], _∷_}
+use mathlib.Core.List.{List, [], _∷_, _++_}
 use Prim.Native.Nat.{ℕ, _+_, _≤_, _<_}
 use native.Mathlib.Omega.{arith}
 use borrow.Author.Tests.{eqb-true, eqb-false, ltb-true}
 use lib.Dec.{ltb, eqb}
-use lib.ListN.{length}
+use lib.ListN.{length, drop}
 use lib.Seq.{length-slice}
 use Rattle.frames.proofs.Orders.{lt-or-le}
 use Rattle.frames.proofs.Choices.{of-each}
@@ -24,11 +24,11 @@ use Rattle.session.proofs.Lawfuls.{lawful as lawful-session}
 use Rattle.session.proofs.Checks.{is-portion, unended, finished-by}
 use Rattle.controller.specs.declared.record.Record.{Record}
 use Rattle.controller.specs.Records.{unlawfulRecord}
-use Rattle.controller.specs.Calls.{minRoom, refusalOf}
+use Rattle.controller.specs.Calls.{minRoom, refusalOf, replySizeOf}
 use Rattle.controller.specs.Portions.{refusedPortion, checkedPortion, portionCall}
 use Rattle.controller.specs.Leaving.{IsRefusal, IsPortionRefusal, Counted, PortionOutcomes, PortionLeaving}
 use Rattle.controller.proofs.Refusals.{lawful-record, Accepted, accepted-of, accepts, six-given, five-given}
-use Rattle.controller.proofs.Settling.{verdict-answers, ended-reply, verdict-reply}
+use Rattle.controller.proofs.Settling.{verdict-answers, ended-reply, verdict-reply, verdict-room}
 use Rattle.controller.proofs.Keeping.{portion-refused, portion-accepted, no-check}
 use Rattle.controller.proofs.Leavings.{refusal-is, nine-given, nine-only}
 
@@ -62,7 +62,9 @@ module _ (most : ℕ) (r : Record) (room area : List ℕ) where
         refused = λ _. refl;
         unfinished = λ z. absurd (known (refusal-is r (length room) (length area) nonzero) z);
         finished = λ z. absurd (nonzero z);
+        past-reply = λ z. absurd (nonzero z);
         counted = λ z. absurd (nonzero z);
+        same-list = refl;
         same-reader = refl;
       }
     where
@@ -90,7 +92,9 @@ module _ (most : ℕ) (r : Record) (room area : List ℕ) where
           refused = λ _. refl;
           unfinished = λ z. absurd (omega arith);
           finished = λ z. absurd (omega arith);
+          past-reply = λ z. absurd (omega arith);
           counted = λ _ runs. true-false (sym runs ∙ still);
+          same-list = refl;
           same-reader = refl;
         }
 
@@ -129,7 +133,9 @@ module _ (most : ℕ) (r : Record) (room area : List ℕ) where
               refused = λ w. absurd (no-refusal 19 (λ z. omega arith) (λ z. omega arith) (λ z. omega arith) (λ z. omega arith) w);
               unfinished = λ _. (refl, (refl, refl));
               finished = λ z. absurd (omega arith);
+              past-reply = λ z. absurd (omega arith);
               counted = λ _ _. subst (Counted most (s .transfer) area) (accepted-is e _ (unended s most area lawful (a .size) runs h .is)) (counts e runs);
+              same-list = refl;
               same-reader = refl;
             })
 
@@ -149,7 +155,11 @@ module _ (most : ℕ) (r : Record) (room area : List ℕ) where
                 ended-none (s .transfer) (willSay (s .transfer) area),
                 verdict-reply (s .transfer) (willSay (s .transfer) area) room (a .wide) ∙ ap (λ (l : List ℕ). l ∷ []) (ended-reply (s .transfer) (willSay (s .transfer) area)),
               );
+              past-reply = λ _.
+                  verdict-room (s .transfer) (willSay (s .transfer) area) room (a .wide)
+                  ∙ ap (λ (l : List ℕ). l ++ drop (replySizeOf (endedFE (s .transfer) (willSay (s .transfer) area) .replies) 0xFE (endedFE (s .transfer) (willSay (s .transfer) area) .reply) room) room) (ended-reply (s .transfer) (willSay (s .transfer) area));
               counted = λ _ _. subst (Counted most (s .transfer) area) (accepted-is e _ (finished-by s most area lawful (a .size) runs h .is)) (counts e runs);
+              same-list = refl;
               same-reader = refl;
             })
 

@@ -141,22 +141,25 @@ not-twelve r room area =
 
 pub only-while-checking : OnlyWhileChecking
 unfolding finishedCall
-only-while-checking call untaken r room area twelve = checks (isChecking r) refl
+only-while-checking call untaken r room area twelve = by-code (eqb code 0) refl
   where
     f : Fed
     f = fedBy call untaken (r .reader)
 
-    outcome : (y : CallLeaves) → calledBy (fedBy call untaken) r room area ≡ y → y .called .outcome ≡ 12
-    outcome y e = ap (λ (x : CallLeaves). x .called .outcome) (sym e) ∙ twelve
+    code : ℕ
+    code = refusalOf r (length room) (length area)
 
-    found : (b : Bool) → f .found ≡ b → isChecking r ≡ false → finishedCall f (r .session) room area .called .outcome ≡ 12 → ⊥
-    found true e still = rw e (still-answers (r .session) (f .frame) area still)
-    found false e still = rw e (λ z. omega arith)
+    outcome : (w : CallLeaves) → calledBy (fedBy call untaken) r room area ≡ w → w .called .outcome ≡ 12
+    outcome w e = ap (λ (x : CallLeaves). x .called .outcome) (sym e) ∙ twelve
 
-    called-by : (b : Bool) → eqb (refusalOf r (length room) (length area)) 0 ≡ b → isChecking r ≡ false → ⊥
-    called-by false e still = not-twelve r (length room) (length area) (outcome _ (calling-refused (fedBy call untaken) r room area e))
-    called-by true e still = found (f .found) refl still (outcome _ (calling-accepted (fedBy call untaken) r room area e))
+    runs : (b : Bool) → isChecking r ≡ b → f .found ≡ true → finishedCall f (r .session) room area .called .outcome ≡ 12 → isChecking r ≡ true
+    runs true e found = λ _. e
+    runs false e found = rw found (λ z. absurd (still-answers (r .session) (f .frame) area e z))
 
-    checks : (b : Bool) → isChecking r ≡ b → isChecking r ≡ true
-    checks true e = e
-    checks false e = absurd (called-by (eqb (refusalOf r (length room) (length area)) 0) refl e)
+    by-found : (b : Bool) → f .found ≡ b → finishedCall f (r .session) room area .called .outcome ≡ 12 → (f .found ≡ true) × (isChecking r ≡ true)
+    by-found true e = λ z. (e, runs (isChecking r) refl e z)
+    by-found false e = rw e (λ z. absurd (omega arith))
+
+    by-code : (b : Bool) → eqb code 0 ≡ b → (code ≡ isAnswered) × ((f .found ≡ true) × (isChecking r ≡ true))
+    by-code false e = absurd (not-twelve r (length room) (length area) (outcome _ (calling-refused (fedBy call untaken) r room area e)))
+    by-code true e = (eqb-true _ _ e, by-found (f .found) refl (outcome _ (calling-accepted (fedBy call untaken) r room area e)))

@@ -1,9 +1,9 @@
 -- While an end check runs, its FE is answered in the plain run and not yet in the run: what is due of it. Assumes nothing.
-use mathlib.Core.Path.{_≡_, refl, sym, ap, ap₂, _∙_}
+use mathlib.Core.Path.{_≡_, refl, sym, ap, ap₂, _∙_, subst}
 use mathlib.Core.Bool.{Bool, true, false, cond}
 use mathlib.Core.List.{List, [], _∷_, _++_, append-nil}
 use Prim.Native.Nat.{ℕ, _≤_}
-use lib.ListN.{length}
+use lib.ListN.{length, drop}
 use Rattle.frames.specs.Frame.{Frame, encode}
 use Rattle.frames.specs.Finished.{finished}
 use Rattle.frames.specs.LiveReading.{CallResult}
@@ -11,6 +11,7 @@ use Rattle.frames.proofs.FinishedFrames.{finished-command}
 use Rattle.frames.proofs.Remains.{stateAfter, repliesOf}
 use Rattle.commands.specs.Replies.{replyFrame}
 use Rattle.commands.proofs.ReplyFrames.{reply-frames}
+use Rattle.commands.proofs.Replies.{reply-room}
 use Rattle.transfer.specs.declared.state.Transfer.{Transfer}
 use Rattle.transfer.specs.declared.check.Verdict.the-variants.{Right, Wrong}
 use Rattle.transfer.specs.FE.{endedFE}
@@ -62,6 +63,14 @@ verdict-reply t right room wide =
     let reply = encode (replyFrame 0xFE (d .reply)) ∷ [] in
     reply-in (d .replies) 0xFE (d .reply) room (λ _. reply-frames .fe-replied) wide
     ∙ ap (λ (b : Bool). cond b reply []) (ended-replies t right)
+
+-- and the room past it stays
+pub verdict-room : (t : Transfer) (right : Bool) (room : List ℕ) → minRoom ≤ length room → let d = endedFE t right in
+    replyRoomOf (d .replies) 0xFE (d .reply) room ≡ encode (replyFrame 0xFE (d .reply)) ++ drop (replySizeOf (d .replies) 0xFE (d .reply) room) room
+verdict-room t right room wide =
+    let d = endedFE t right in
+    subst (λ (b : Bool). replyRoomOf b 0xFE (d .reply) room ≡ encode (replyFrame 0xFE (d .reply)) ++ drop (replySizeOf b 0xFE (d .reply) room) room) (sym (ended-replies t right))
+    (reply-room 0xFE (d .reply) room (reply-frames .fe-replied) wide)
 
 -- a frame, while no check runs
 module _ (s : State) (f : Frame) (still : s .session .transfer .check .running ≡ false) where

@@ -75,11 +75,12 @@ FrameMeetsCheck =
     → let f = fedBy call untaken (r .reader) in
     f .found ≡ true → calledBy (fedBy call untaken) r room area .called .outcome ≡ metBy (r .session) (f .frame)
 
--- and no call gives 12 unless one runs
+-- and 12 is given by no other call: only by one that is not refused and found a frame, while a check runs
 abbrev pub OnlyWhileChecking : Type 0
 OnlyWhileChecking =
     (call : Call) (untaken : List ℕ) (r : Record) (room area : List ℕ)
-    → calledBy (fedBy call untaken) r room area .called .outcome ≡ checkRuns → isChecking r ≡ true
+    → calledBy (fedBy call untaken) r room area .called .outcome ≡ checkRuns
+    → (refusalOf r (length room) (length area) ≡ isAnswered) × ((fedBy call untaken (r .reader) .found ≡ true) × (isChecking r ≡ true))
 
 -- ---- what comes of them
 

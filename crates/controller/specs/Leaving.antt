@@ -1,11 +1,11 @@
--- 01, "Outcome numbers": what a feeding or quiet call leaves, outcome by outcome, and when it gives 9. Document 02, K5: the same of a
--- portion call. And that a lawful record stays lawful. Assumes nothing.
+-- 01, "Outcome numbers": what a feeding or quiet call leaves, outcome by outcome, and when it gives 9. Document 02, K5: what a portion call
+-- leaves, and when it gives each of its outcomes. And that a lawful record stays lawful. Assumes nothing.
 use mathlib.Core.Path.{_≡_}
 use mathlib.Core.Bool.{true, false}
 use mathlib.Core.Logic.{_↔_, _⊎_}
-use mathlib.Core.List.{List, [], _∷_}
+use mathlib.Core.List.{List, [], _∷_, _++_}
 use Prim.Native.Nat.{ℕ, _+_, _≤_, _<_}
-use lib.ListN.{length}
+use lib.ListN.{length, drop}
 use lib.Seq.{slice}
 use Rattle.frames.specs.Frame.{Bytes, encode}
 use Rattle.frames.specs.LiveReading.{Call, heldBytes, holding, called, fedBy}
@@ -60,9 +60,12 @@ Leaving = (c : Call) (rest : List ℕ) (r : Record) (room area : List ℕ) → O
 abbrev pub IsPortionRefusal : ℕ → Type 0
 IsPortionRefusal n = IsRefusal n ⊎ (n ≡ noCheckRuns)
 
--- the session with another check
+-- the session with another transfer; with another check
+abbrev pub sessionWith : Session → Transfer → Session
+sessionWith s t = record { boards = s .boards; count = s .count; opened = s .opened; transfer = t }
+
 abbrev pub checkingOn : Session → Check → Session
-checkingOn s c = record { boards = s .boards; count = s .count; opened = s .opened; transfer = withCheck (s .transfer) c }
+checkingOn s c = sessionWith s (withCheck (s .transfer) c)
 
 -- the frame FE, channel, state
 abbrev pub stateFrame : ℕ → ℕ → List ℕ
@@ -102,6 +105,11 @@ pub record PortionOutcomes (most : ℕ) (r : Record) (room area : List ℕ) (x :
   pub finished : x .called .outcome ≡ isAnswered
       → (x .called .next .session .transfer .check ≡ noCheck)
       × (replyIn (x .called .«reply_length») (x .room) ≡ stateFrame (r .session .transfer .channel) (verdictState (x .called .verdict)) ∷ [])
+  -- "Room past a reply .. stay"
+  pub past-reply : x .called .outcome ≡ isAnswered
+      → x .room ≡ stateFrame (r .session .transfer .channel) (verdictState (x .called .verdict)) ++ drop (x .called .«reply_length») room
+  -- list and opened length stay on every outcome
+  pub same-list : x .called .next .session ≡ sessionWith (r .session) (x .called .next .session .transfer)
   -- "reports how many image bytes it read in this call"
   pub counted : refusalOf r (length room) (length area) ≡ isAnswered → isChecking r ≡ true
       → Counted most (r .session .transfer) area x
