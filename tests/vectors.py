@@ -7,7 +7,7 @@ tests/vectors.py > crates/vectors/stdout    makes the stored output anew.
 import binascii
 import zlib
 
-message = bytes(i * 7 % 251 for i in range(600))
+message = bytes(i * 7 % 251 for i in range(3100))
 
 
 def reflected(x, width):
@@ -40,9 +40,8 @@ def frame(n, size):
     print(f"frame {n} in {size}: {written} {zlib.crc32(room):08x} {'whole' if written else 'none'} {zlib.crc32(read):08x}")
 
 
-for n in range(68):
+for n in [*range(68), *range(126, 132), *range(510, 518), *range(1024, 1032), *range(2050, 2056), 3100]:
     sums(n, message[:n])
 sums("123456789", b"123456789")
-sums(600, message)
 for n, size in [(0, 526), (1, 526), (256, 526), (519, 526), (519, 525), (520, 526)]:
     frame(n, size)

@@ -4,7 +4,7 @@ use mathlib.Core.List.{List, [], _∷_}
 use Prim.Native.Nat.{ℕ, zero, suc, _+_, _-_, _*_, _/_, _%_, _^_, _<_}
 use native.Mathlib.Nat.{add-zero, add-suc}
 use lib.ListN.{length}
-use lib.Bits.{bitXor, xor-shr, xor-mod, xor-self}
+use lib.Bits.{bitXor, xor-shr, xor-mod, xor-self, xor-zero-r}
 use Rattle.crc.specs.Crc.{Direction, normal, reflected, Kind, leaving, moved, entering, bit, bits, byte, update}
 use Rattle.crc.specs.Tables.{zeroBytes}
 use Rattle.crc.proofs.Xor.{odd-lt, xor-assoc, xor-medial, xor-shl, xor-times}
@@ -50,6 +50,27 @@ pub update-xor : (k : Kind) (u v : ℕ) (s : List ℕ) → update k (bitXor u v)
 unfolding update zeroBytes
 update-xor k u v [] = refl
 update-xor k u v (b ∷ s) = ap (λ (x : ℕ). update k x s) (byte-xor k u v b) ∙ update-xor k (bits k 8 u) (byte k v b) s
+
+-- from any register: its own part, and that of the bytes
+pub update-from : (k : Kind) (r : ℕ) (s : List ℕ) → update k r s ≡ bitXor (zeroBytes k (length s) r) (update k 0 s)
+update-from k r s = ap (λ (x : ℕ). update k x s) (sym (xor-zero-r r)) ∙ update-xor k r 0 s
+
+-- ---- bytes
+
+pub byte-sum : (k : Kind) (u v x y : ℕ) → byte k (bitXor u v) (bitXor x y) ≡ bitXor (byte k u x) (byte k v y)
+unfolding byte
+byte-sum k u v x y =
+    let d = k .direction in
+    let w = k .width in
+    ap (λ (e : ℕ). bits k 8 (bitXor (bitXor u v) e)) (entering-xor d w x y)
+    ∙ ap (bits k 8) (xor-medial u v (entering d w x) (entering d w y))
+    ∙ bits-xor k 8 (bitXor u (entering d w x)) (bitXor v (entering d w y))
+
+pub byte-none : (k : Kind) → byte k 0 0 ≡ 0
+byte-none k = byte-sum k 0 0 0 0 ∙ xor-self (byte k 0 0)
+
+pub byte-parts : (k : Kind) (r b : ℕ) → byte k r b ≡ bitXor (bits k 8 r) (byte k 0 b)
+byte-parts k r b = ap (λ (x : ℕ). byte k x b) (sym (xor-zero-r r)) ∙ byte-xor k r 0 b
 
 -- ---- bytes of zero
 

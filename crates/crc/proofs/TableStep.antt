@@ -1,4 +1,4 @@
--- A byte's eight steps by one entry of a table of 256, in both directions. Assumes nothing.
+-- A byte's eight steps by one entry of a table, in both directions. Assumes nothing.
 use mathlib.Core.Path.{_≡_, refl, sym, ap, ap₂, subst, _∙_}
 use Prim.Native.Nat.{ℕ, zero, suc, _+_, _-_, _*_, _/_, _%_, _^_, _<_, _≤_}
 use native.Mathlib.Nat.{mod-lt, zero-mul, mul-one, mul-assoc, mul-comm, pow-suc, lt-of-lt-of-le, le-add-right, div-eq-of-lt, mod-eq-of-lt}

@@ -1,3 +1,4 @@
--- The definitions that the contracts of `crc16` and `crc32` cite.
+-- The definitions that the contracts of `folding`, `crc16` and `crc32` cite.
 pub mod Crc
 pub mod Tables
+pub mod Folding

@@ -12,9 +12,13 @@ unfoldable pub zeroBytes : Kind → ℕ → ℕ → ℕ
 zeroBytes k zero r = r
 zeroBytes k (suc n) r = zeroBytes k n (bits k 8 r)
 
--- n tables of 256 entries, one after the other: in table m, at j, the register after the byte j and m bytes of zero, from 0
+-- the byte that place j of a table is for: 0 to 15 are for the low nibbles, 16 to 31 for the high ones
+abbrev pub nibble : ℕ → ℕ
+nibble j = j % 16 * 16 ^ (j / 16)
+
+-- n tables of 32 entries, one after the other: in table m, at j, the register after the byte `nibble j` and m bytes of zero, from 0
 unfoldable pub Tabled : Kind → ℕ → List ℕ → Type 0
-Tabled k n t = (m j : ℕ) → m < n → j < 256 → getD t (m * 256 + j) 0 ≡ zeroBytes k m (byte k 0 j)
+Tabled k n t = (m j : ℕ) → m < n → j < 32 → getD t (m * 32 + j) 0 ≡ zeroBytes k m (byte k 0 (nibble j))
 
 -- the eight bits of a register of w bits that the next byte is added to
 abbrev pub front : Direction → ℕ → ℕ → ℕ

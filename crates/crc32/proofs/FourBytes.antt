@@ -27,7 +27,8 @@ four-bytes n r s i h f =
     let gone : r3 / 256 ≡ 0 = omega arith in
     let b3 = getD s (i + 1 + 1 + 1) 0 in
     let last : bitXor (carried (n + 0) r3 b3) (zeroBytes crc32 n (r3 / 256)) ≡ carried n r3 b3
-    = ap₂ (λ (x y : ℕ). bitXor (carried x r3 b3) y) (add-zero n) (ap (zeroBytes crc32 n) gone ∙ zeroBytes-zero crc32 n) ∙ xor-zero-r (carried n r3 b3) in
+    = ap₂ (λ (x y : ℕ). bitXor (carried x r3 b3) y) (add-zero n) (ap (zeroBytes crc32 n) gone ∙ zeroBytes-zero crc32 n)
+    ∙ xor-zero-r (carried n r3 b3) in
     sym (update-entries crc32 (lit≤ tt) n r s i 4 f
     ∙ ap (λ (x : ℕ).
     bitXor (carried (n + 3) r (getD s i 0))

@@ -1,7 +1,9 @@
-// CRC-32 of a slice of bytes, sixteen bytes at a time.
+// CRC-32 of a slice of bytes: a long message is folded to a few bytes with the same register (`fold`), these go by tables, sixteen at a time
+// (`slicing`).
 //
 // What a CRC is stands in specs/Crc.antt of the crate `crc`; each function here is equal to that definition. A long message may be
 // taken in parts: start at `INIT`, `update` over each part in turn, then `finish`. `checksum` is the three in one.
+mod fold;
 mod slicing;
 mod tables;
 
@@ -23,7 +25,10 @@ pub fn update(register: u32, s: &[u8]) -> u32
     ensures { λ r. ⌜ r ≡ update crc32 register (now (s .entry)) ⌝ }
 {
     let t = tables::TABLES;
-    slicing::over(&t, register, s)
+    if s.len() < fold::LEAST {
+        return slicing::over(&t, register, s);
+    }
+    fold::long(&t, register, s)
 }
 
 // The CRC-32 that a register stands for once every byte is in.

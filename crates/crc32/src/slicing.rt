@@ -1,4 +1,4 @@
-// The register over many bytes by sixteen tables: each byte of a block has its table, and no lookup waits for another's result.
+// The register over some bytes by sixteen tables: each byte of a block has its table, and no lookup waits for another's result.
 ghost use mathlib.Core.Path.{_≡_};
 ghost use Prim.Native.Nat.{_<_, _≤_, _+_, _%_};
 ghost use lib.Bits.{bitXor};
@@ -7,7 +7,7 @@ ghost use Rattle.crc.specs.Crc.{byte, update, crc32};
 ghost use Rattle.crc.specs.Tables.{zeroBytes, Tabled};
 
 // The register after the bytes of s.
-pub(crate) fn over(t: &[u32; 4096], register: u32, s: &[u8]) -> u32
+pub(crate) fn over(t: &[u32; 512], register: u32, s: &[u8]) -> u32
     requires { ⌜ Tabled crc32 16 (now t) ⌝ }
     ensures { λ r. ⌜ r ≡ update crc32 register (now (s .entry)) ⌝ }
 {
@@ -21,7 +21,7 @@ pub(crate) fn over(t: &[u32; 4096], register: u32, s: &[u8]) -> u32
 }
 
 // The same, a byte at a time: for what is left after the last block.
-fn one_by_one(t: &[u32; 4096], register: u32, s: &[u8]) -> u32
+fn one_by_one(t: &[u32; 512], register: u32, s: &[u8]) -> u32
     requires { ⌜ Tabled crc32 16 (now t) ⌝ }
     ensures { λ r. ⌜ r ≡ update crc32 register (now (s .entry)) ⌝ }
 {
@@ -35,7 +35,7 @@ fn one_by_one(t: &[u32; 4096], register: u32, s: &[u8]) -> u32
 }
 
 // The register after the 16 bytes at i. Only the first four meet the register, which has four bytes.
-fn block(t: &[u32; 4096], register: u32, s: &[u8], i: usize) -> u32
+fn block(t: &[u32; 512], register: u32, s: &[u8], i: usize) -> u32
     requires { ⌜ (i + 16 ≤ length (now s)) × Tabled crc32 16 (now t) ⌝ }
     ensures { λ r. ⌜ r ≡ update crc32 register (take 16 (drop i (now (s .entry)))) ⌝ }
 {
@@ -47,7 +47,7 @@ fn block(t: &[u32; 4096], register: u32, s: &[u8], i: usize) -> u32
 }
 
 // The register after the four bytes at i and n bytes of zero.
-fn four(t: &[u32; 4096], n: usize, register: u32, s: &[u8], i: usize) -> u32
+fn four(t: &[u32; 512], n: usize, register: u32, s: &[u8], i: usize) -> u32
     requires { ⌜ (n + 4 ≤ 16) × (i + 4 ≤ length (now s)) × Tabled crc32 16 (now t) ⌝ }
     ensures { λ r. ⌜ r ≡ zeroBytes crc32 n (update crc32 register (take 4 (drop i (now (s .entry))))) ⌝ }
 {
@@ -62,7 +62,7 @@ fn four(t: &[u32; 4096], n: usize, register: u32, s: &[u8], i: usize) -> u32
 }
 
 // The register after one byte.
-fn next(t: &[u32; 4096], register: u32, b: u8) -> u32
+fn next(t: &[u32; 512], register: u32, b: u8) -> u32
     requires { ⌜ Tabled crc32 16 (now t) ⌝ }
     ensures { λ r. ⌜ r ≡ byte crc32 register b ⌝ }
 {
@@ -70,22 +70,25 @@ fn next(t: &[u32; 4096], register: u32, b: u8) -> u32
 }
 
 // The entry for the byte b, carried on over n bytes of zero.
-fn entry(t: &[u32; 4096], n: usize, register: u32, b: u8) -> u32
+fn entry(t: &[u32; 512], n: usize, register: u32, b: u8) -> u32
     requires { ⌜ (n < 16) × Tabled crc32 16 (now t) ⌝ }
     ensures { λ r. ⌜ r ≡ zeroBytes crc32 n (byte crc32 0 (bitXor (register % 256) b)) ⌝ }
 {
     at(t, n, low(register) ^ b)
 }
 
-// Table n, at x.
-fn at(t: &[u32; 4096], n: usize, x: u8) -> u32
+// Table n, at x: the sum of the entries of its nibbles.
+fn at(t: &[u32; 512], n: usize, x: u8) -> u32
     requires { ⌜ (n < 16) × Tabled crc32 16 (now t) ⌝ }
     ensures { λ r. ⌜ r ≡ zeroBytes crc32 n (byte crc32 0 x) ⌝ }
 {
-    t[n * 256 + x as usize]
+    let i = n * 32 + (x % 16) as usize;
+    let j = n * 32 + 16 + (x / 16) as usize;
+    t[i] ^ t[j]
 }
 
-fn low(register: u32) -> u8
+// The byte of the register that the next one meets.
+pub(crate) fn low(register: u32) -> u8
     ensures { λ r. ⌜ r ≡ register % 256 ⌝ }
 {
     (register % 256) as u8

@@ -1,29 +1,31 @@
--- Adding to a line: a byte, and one text behind another. Assumes nothing.
-use mathlib.Core.Path.{_≡_, refl, sym, ap, subst, _∙_}
-use mathlib.Core.List.{List, [], _∷_, _++_, append-assoc, append-nil}
+-- Adding to a line: a byte, a text, and one text behind another. Assumes nothing.
+use borrow.Author.Tests.{le-leb}
+use mathlib.Core.Bool.{Bool, true, cond}
+use mathlib.Core.Path.{_≡_, refl, sym, ap, ap₂, subst, _∙_}
+use mathlib.Core.List.{List, [], _∷_, _++_, append-assoc}
 use Prim.Native.Nat.{ℕ, _+_, _-_, _*_, _^_, _≤_, _<_}
 use native.Mathlib.Nat.{le-of-suc-le-suc, lt-of-not-le, pow-le-pow-right}
 use native.Mathlib.Numerals.{add-one}
 use native.Mathlib.Omega.{arith}
-use lib.ListN.{length, take, set, getD, length-append, length-set}
-use lib.Seq.{take-all, take-suc, take-suc-set, length-take-le}
+use lib.ListN.{length, take, drop, set, length-append, length-drop, length-set}
+use lib.Seq.{take-length, take-at, take-suc-set, length-take-le}
+use Rattle.frames.specs.Places.{writtenAt}
+use Rattle.frames.proofs.Places.{part-written, written-size}
 use Rattle.io.specs.Digits.{digits, Fewest}
-use Rattle.text.specs.Hex.{hexByte, hexBytes}
-use Rattle.text.proofs.Hexes.{hexBytes-append, length-hexBytes}
+use Rattle.text.specs.Hex.{hexBytes, hexFits, hexSize, hexRoom}
+use Rattle.text.proofs.Hexes.{length-hexBytes}
 use Rattle.text.proofs.Digits.{is-decimal}
 use Rattle.replay.specs.declared.line.Line.{Line}
-use Rattle.replay.specs.Texts.{textOf, replyText, Adds, AddsDecimal}
+use Rattle.replay.specs.Texts.{maxLine, textOf, replyText, Adds, AddsDecimal}
 
-pub adds-byte : (l : Line) (b : ℕ) → l .count < length (l .bytes) → Adds l (b ∷ []) (record { bytes = set (l .bytes) (l .count) b; count = l .count + 1 })
+pub adds-byte : (l : Line) (b : ℕ) → l .count < length (l .bytes)
+    → Adds l (b ∷ []) (record { bytes = set (l .bytes) (l .count) b; count = l .count + 1 })
 adds-byte l b h =
     record {
       says = ap (λ (n : ℕ). take n (set (l .bytes) (l .count) b)) (add-one (l .count)) ∙ take-suc-set (l .bytes) (l .count) b h;
       counts = refl;
       keeps = length-set (l .bytes) (l .count) b;
     }
-
-pub adds-nothing : (l : Line) → Adds l [] l
-adds-nothing l = record { says = sym (append-nil (textOf l)); counts = omega arith; keeps = refl }
 
 pub adds-both : {l m r : Line} {s t : List ℕ} → Adds l s m → Adds m t r → Adds l (s ++ t) r
 adds-both {l} {m} {r} {s} {t} f g =
@@ -36,30 +38,49 @@ adds-both {l} {m} {r} {s} {t} f g =
 pub from-empty : {l r : Line} {t : List ℕ} → l .count ≡ 0 → Adds l t r → textOf r ≡ t
 from-empty {l} {r} {t} h f = f .says ∙ ap (λ (n : ℕ). take n (l .bytes) ++ t) h
 
--- ---- a text, byte by byte
+-- ---- a text, put into the bytes behind the line's end
 
-pub adds-next : (l m r : Line) (s : List ℕ) (i : ℕ) → i < length s → Adds l (take i s) m → Adds m (getD s i 0 ∷ []) r → Adds l (take (i + 1) s) r
-adds-next l m r s i h f g =
-    subst (λ (t : List ℕ). Adds l t r)
-    (sym (ap (λ (n : ℕ). take n s) (add-one i) ∙ take-suc s i 0 h))
-    (adds-both f g)
+adds-written : (l : Line) (t : List ℕ) → l .count + length t ≤ length (l .bytes)
+    → Adds l t (record { bytes = writtenAt (l .bytes) (l .count) t; count = l .count + length t })
+unfolding writtenAt
+adds-written l t h =
+    let at = l .count in
+    let f = take at (l .bytes) in
+    let d = drop (at + length t) (l .bytes) in
+    let size : length (f ++ t) ≡ at + length t = omega (arith, length-append f t, length-take-le at (l .bytes) (omega arith)) in
+    record {
+      says = ap (take (at + length t)) (sym (append-assoc f t d)) ∙ take-at (f ++ t) d (at + length t) size;
+      counts = refl;
+      keeps = written-size (l .bytes) t (l .count) h;
+    }
 
-pub adds-all : (l m : Line) (s : List ℕ) (i : ℕ) → length s ≤ i → Adds l (take i s) m → Adds l s m
-adds-all l m s i h f = subst (λ (t : List ℕ). Adds l t m) (take-all i s h) f
+-- the room behind the line's end, as a callee is lent it, and the line's bytes with q left there
+abbrev roomOf : Line → List ℕ
+roomOf l = take (maxLine - l .count) (drop (l .count) (l .bytes))
 
--- ---- a reply, byte by byte
+abbrev leftBy : Line → List ℕ → List ℕ
+leftBy l q = take (l .count) (l .bytes) ++ (q ++ drop (maxLine - l .count) (drop (l .count) (l .bytes)))
 
-pub hex-next : (l m r : Line) (s : List ℕ) (i : ℕ) → i < length s → Adds l (hexBytes (take i s)) m → Adds m (hexByte (getD s i 0)) r → Adds l (hexBytes (take (i + 1) s)) r
-hex-next l m r s i h f g =
-    subst (λ (t : List ℕ). Adds l t r)
-    (sym
-    (ap hexBytes (ap (λ (n : ℕ). take n s) (add-one i) ∙ take-suc s i 0 h)
-    ∙ hexBytes-append (take i s) (getD s i 0 ∷ [])))
-    (adds-both f g)
+pub adds-part : (l : Line) (t q : List ℕ) (n : ℕ) → length (l .bytes) ≡ maxLine → l .count + length t ≤ maxLine → n ≡ length t
+    → q ≡ take (length t) t ++ drop (length t) (roomOf l) → Adds l t (record { bytes = leftBy l q; count = l .count + n })
+adds-part l t q n size h en eq =
+    let at = l .count in
+    let fits : at + length t ≤ length (l .bytes) = omega arith in
+    let is : leftBy l q ≡ writtenAt (l .bytes) at t = part-written (l .bytes) t q at (maxLine - at) (omega arith) fits eq in
+    subst (λ (k : ℕ). Adds l t (record { bytes = leftBy l q; count = at + k })) (sym en)
+    (subst (λ (b : List ℕ). Adds l t (record { bytes = b; count = at + length t })) (sym is) (adds-written l t fits))
 
--- how far the line is filled after i bytes of the reply
-pub hex-count : (l m : Line) (s : List ℕ) (i : ℕ) → i ≤ length s → Adds l (hexBytes (take i s)) m → m .count ≡ l .count + 2 * i
-hex-count l m s i h f = omega (arith, f .counts, length-hexBytes (take i s), length-take-le i s h)
+-- ---- a reply
+
+hex-fits : (l : Line) (s : List ℕ) → length (l .bytes) ≡ maxLine → l .count + 2 * length s ≤ maxLine → hexFits s (roomOf l) ≡ true
+hex-fits l s size h =
+    let behind = drop (l .count) (l .bytes) in
+    let long : length behind ≡ maxLine - l .count = omega (arith, length-drop (l .count) (l .bytes)) in
+    le-leb (2 * length s) (length (roomOf l)) (omega (arith, length-take-le (maxLine - l .count) behind (omega (arith, long))))
+
+pub hex-count : (l : Line) (s : List ℕ) (n : ℕ) → length (l .bytes) ≡ maxLine → l .count + 2 * length s ≤ maxLine
+    → n ≡ hexSize s (roomOf l) → n ≡ 2 * length s
+hex-count l s n size h en = en ∙ ap (λ (b : Bool). cond b (2 * length s) 0) (hex-fits l s size h)
 
 pub no-reply : (s : List ℕ) → length s ≡ 0 → replyText s ≡ 45 ∷ []
 no-reply [] h = refl
@@ -69,9 +90,17 @@ some-reply : (s : List ℕ) → 0 < length s → replyText s ≡ hexBytes s
 some-reply [] h = absurd (omega arith)
 some-reply (b ∷ s) h = refl
 
-pub hex-all : (l m : Line) (s : List ℕ) (i : ℕ) → 0 < length s → length s ≤ i → Adds l (hexBytes (take i s)) m → Adds l (replyText s) m
-hex-all l m s i n h f =
-    subst (λ (t : List ℕ). Adds l t m) (ap hexBytes (take-all i s h) ∙ sym (some-reply s n)) f
+pub adds-reply : (l : Line) (s q : List ℕ) (n : ℕ) → length (l .bytes) ≡ maxLine → l .count + 2 * length s ≤ maxLine → 0 < length s
+    → n ≡ hexSize s (roomOf l) → q ≡ hexRoom s (roomOf l) → Adds l (replyText s) (record { bytes = leftBy l q; count = l .count + n })
+adds-reply l s q n size h some en eq =
+    let t = hexBytes s in
+    let room = roomOf l in
+    let all : length t ≡ 2 * length s = length-hexBytes s in
+    let written : q ≡ t ++ drop (2 * length s) room =
+    eq ∙ ap (λ (b : Bool). cond b (t ++ drop (2 * length s) room) room) (hex-fits l s size h) in
+    subst (λ (x : List ℕ). Adds l x (record { bytes = leftBy l q; count = l .count + n })) (sym (some-reply s some))
+    (adds-part l t q n size (omega (arith, all)) (hex-count l s n size h en ∙ sym all)
+    (written ∙ ap₂ _++_ (sym (take-length t)) (ap (λ (k : ℕ). drop k room) (sym all))))
 
 -- ---- a decimal
 
@@ -86,7 +115,8 @@ not-over b n k most h some holds w over =
 pub twenty-digits : (n k : ℕ) → n < 10 ^ 20 → Fewest 10 1 n k → k ≤ 20
 twenty-digits n k h w = le-of-suc-le-suc (lt-of-not-le (not-over 10 n k 20 (omega arith) (omega arith) h w))
 
-pub adds-decimal : {l r : Line} (n k : ℕ) (out : List ℕ) → n < 10 ^ 20 → k ≡ length (take k out) → Fewest 10 1 n k → take k out ≡ digits 10 k n → Adds l (take k out) r → AddsDecimal l n r
+pub adds-decimal : {l r : Line} (n k : ℕ) (out : List ℕ) → n < 10 ^ 20 → k ≡ length (take k out) → Fewest 10 1 n k
+    → take k out ≡ digits 10 k n → Adds l (take k out) r → AddsDecimal l n r
 adds-decimal n k out h c w e f =
     record {
       text = take k out;

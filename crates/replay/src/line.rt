@@ -53,6 +53,7 @@ impl Line {
         }
     }
 
+    // The reply in hexadecimal, or `-` for none.
     fn reply(self, reply: &[u8]) -> Line
         requires { ⌜ length (self .bytes) ≡ maxLine ⌝ }
         requires { ⌜ self .count + 66 ≤ maxLine ⌝ }
@@ -63,13 +64,13 @@ impl Line {
         if reply.len() == 0 {
             return self.put(b'-');
         }
-        let mut line = self;
-        let mut i = 0;
-        while i < reply.len() {
-            line = line.hex(reply[i]);
-            i += 1;
+        let mut all = self.bytes;
+        let at = self.count;
+        let n = hex::bytes(reply, &mut all[at..]);
+        Line {
+            bytes: all,
+            count: at + n,
         }
-        line
     }
 
     fn decimal(self, n: u64) -> Line
@@ -96,13 +97,13 @@ impl Line {
         requires { ⌜ self .count + length (now text) ≤ maxLine ⌝ }
         ensures { λ r. ⌜ Adds self (now (text .entry)) r ⌝ }
     {
-        let mut line = self;
-        let mut i = 0;
-        while i < text.len() {
-            line = line.put(text[i]);
-            i += 1;
+        let mut all = self.bytes;
+        let at = self.count;
+        let n = bytes::copy(text, &mut all[at..]);
+        Line {
+            bytes: all,
+            count: at + n,
         }
-        line
     }
 
     fn put(mut self, b: u8) -> Line

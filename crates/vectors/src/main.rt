@@ -7,32 +7,45 @@ ghost use Rattle.io.specs.Counts.{Counts};
 
 fn main() {
     let m = message();
-    lengths(&m);
-    text(b"123456789", &m);
-    checksums(600, &m);
-    frame(0, 526, &m);
-    frame(1, 526, &m);
-    frame(256, 526, &m);
-    frame(519, 526, &m);
-    frame(519, 525, &m);
-    frame(520, 526, &m);
+    all_sums(&m);
+    all_frames(&m);
+}
+
+// Lengths around the first blocks of sixteen bytes, the least that is folded, and the first parts of a folded message.
+fn all_sums(m: &[u8]) {
+    lengths(0, 68, m);
+    lengths(126, 132, m);
+    lengths(510, 518, m);
+    lengths(1024, 1032, m);
+    lengths(2050, 2056, m);
+    checksums(3100, m);
+    text(b"123456789", m);
+}
+
+fn all_frames(m: &[u8]) {
+    frame(0, 526, m);
+    frame(1, 526, m);
+    frame(256, 526, m);
+    frame(519, 526, m);
+    frame(519, 525, m);
+    frame(520, 526, m);
 }
 
 // Bytes without a simple pattern modulo 16.
-fn message() -> [u8; 600] {
-    let mut m = [0u8; 600];
+fn message() -> [u8; 3100] {
+    let mut m = [0u8; 3100];
     let mut i = 0;
-    while i < 600 {
+    while i < 3100 {
         m[i] = (i * 7 % 251) as u8;
         i += 1;
     }
     m
 }
 
-// Every length around a block of sixteen bytes and the next ones.
-fn lengths(m: &[u8]) {
-    let mut n = 0;
-    while n < 68 {
+// Each length from `from` to below `to`.
+fn lengths(from: usize, to: usize, m: &[u8]) {
+    let mut n = from;
+    while n < to {
         checksums(n, m);
         n += 1;
     }

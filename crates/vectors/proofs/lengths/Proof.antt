@@ -5,10 +5,10 @@ use Rattle.vectors.proofs.lengths.Statement.{statement}
 use Rattle.vectors.proofs.lengths.Tie as tie
 
 abbrev Inv-loop : tie.InvT-loop
-Inv-loop m n₀ n = n ≤ 68
+Inv-loop from to m n₀ n = from ≤ n
 
 abbrev μ-loop : tie.MeasureT-loop
-μ-loop m n₀ n = 68 - n
+μ-loop from to m n₀ n = to - n
 
 loop-holds : tie.Need-loop-holds Inv-loop μ-loop
 loop-holds c = search needs

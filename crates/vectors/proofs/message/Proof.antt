@@ -7,10 +7,10 @@ use Rattle.vectors.proofs.message.Statement.{statement}
 use Rattle.vectors.proofs.message.Tie as tie
 
 abbrev Inv-loop : tie.InvT-loop
-Inv-loop m₀ i₀ m i = (i ≤ 600) × (length m ≡ 600)
+Inv-loop m₀ i₀ m i = (i ≤ 3100) × (length m ≡ 3100)
 
 abbrev μ-loop : tie.MeasureT-loop
-μ-loop m₀ i₀ m i = 600 - i
+μ-loop m₀ i₀ m i = 3100 - i
 
 loop-holds : tie.Need-loop-holds Inv-loop μ-loop
 loop-holds c = (search needs, refl)

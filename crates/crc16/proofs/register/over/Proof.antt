@@ -1,55 +1,22 @@
--- `crc16::register::over` meets its contract. The loop's invariant: c is the register after the first i bytes. Assumes nothing.
+-- `crc16::register::over` meets its contract. Assumes nothing.
 use borrow.Author.Needs.{needs}
-use mathlib.Core.Path.{_≡_, refl, _∙_}
-use Prim.Native.Nat.{_≤_, _-_}
-use lib.ListN.{length, take}
-use Rattle.crc.specs.Crc.{update, finish, checksum}
-use Rattle.crc.proofs.Updates.{update-next, update-all}
-use Rattle.crc16.specs.Kinds.{kindOf}
+use Rattle.crc.specs.Crc.{finish, checksum}
 use Rattle.crc16.proofs.register.over.Statement.{statement}
 use Rattle.crc16.proofs.register.over.Tie as tie
 
-abbrev Inv-loop : tie.InvT-loop
-Inv-loop p t s c₀ i₀ c i = (i ≤ length s) × (c ≡ update (kindOf p) (p .start) (take i s))
+over-requires : tie.Need-over-requires
+over-requires c κs = search needs
 
-abbrev μ-loop : tie.MeasureT-loop
-μ-loop p t s c₀ i₀ c i = length s - i
-
-loop-holds : tie.Need-loop-holds Inv-loop μ-loop
-unfolding update
-loop-holds c = (search needs, refl)
-
-shared-slice-read-next : tie.Need-shared-slice-read-next Inv-loop μ-loop
-shared-slice-read-next c = search needs
-
-next-requires : tie.Need-next-requires Inv-loop μ-loop
-next-requires c κs = search needs
-
-add-i : tie.Need-add-i Inv-loop μ-loop
-add-i c = search needs
-
-loop-less : tie.Need-loop-less Inv-loop μ-loop
-loop-less c = search needs
-
-loop-again : tie.Need-loop-again Inv-loop μ-loop
-loop-again c =
-    let at = c .before .before .before in
-    (search needs, c .next .ensures ∙ update-next _ _ _ (at .loop .i) (c .before .before .loop-test .taken) (at .loop .inv .1))
-
-returns : tie.Need-returns Inv-loop μ-loop
+returns : tie.Need-returns
 unfolding checksum finish
-returns c = update-all _ _ _ (c .before .loop .i) (c .loop-test .left) (c .before .loop .inv .1)
+returns c = c .over .ensures
+
+long-requires : tie.Need-long-requires
+long-requires c κs = search needs
+
+returns-2 : tie.Need-returns-2
+unfolding checksum finish
+returns-2 c = c .long .ensures
 
 pub over-spec : {M : Type 1} → statement M
-over-spec =
-    tie.close
-    (tie.spec
-    Inv-loop
-    μ-loop
-    loop-holds
-    shared-slice-read-next
-    next-requires
-    add-i
-    loop-less
-    loop-again
-    returns)
+over-spec = tie.close (tie.spec over-requires returns long-requires returns-2)

@@ -1,74 +1,59 @@
 -- `replay::line::Line::reply` meets its contract. Assumes nothing.
 use borrow.Author.Needs.{needs}
-use mathlib.Core.Path.{sym, subst}
+use mathlib.Core.Path.{_≡_, sym, subst}
 use mathlib.Core.List.{List}
-use Prim.Native.Nat.{ℕ, _<_, _≤_, _-_}
+use Prim.Native.Nat.{ℕ, _*_}
 use native.Mathlib.Omega.{arith}
-use lib.ListN.{length, take}
-use Rattle.text.specs.Hex.{hexBytes}
+use lib.ListN.{length}
 use Rattle.replay.specs.Texts.{Adds}
-use Rattle.replay.proofs.Adding.{adds-nothing, hex-next, hex-all, hex-count, no-reply}
+use Rattle.replay.proofs.Adding.{adds-reply, hex-count, no-reply}
 use Rattle.replay.proofs.line.Line.reply.Statement.{statement}
 use Rattle.replay.proofs.line.Line.reply.Tie as tie
 
-abbrev Inv-loop : tie.InvT-loop
-Inv-loop reply line₀ i₀ line i = (i ≤ length reply) × Adds line₀ (hexBytes (take i reply)) line
-
-abbrev μ-loop : tie.MeasureT-loop
-μ-loop reply line₀ i₀ line i = length reply - i
-
-put-requires : tie.Need-put-requires Inv-loop μ-loop
+put-requires : tie.Need-put-requires
 put-requires c κs = search needs
 
-returns : tie.Need-returns Inv-loop μ-loop
+returns : tie.Need-returns
 returns c =
-    let o = c .before .before .before in
-    (subst (λ (t : List ℕ). Adds (o .args .self) t (c .put .result)) (sym (no-reply (o .args .reply .now) (omega arith))) (c .put .ensures), omega arith)
+    let a = c .before .before .before .args in
+    let none = no-reply (a .reply .now) (omega arith) in
+    (subst (λ (t : List ℕ). Adds (a .self) t (c .put .result)) (sym none) (c .put .ensures), omega arith)
 
-loop-holds : tie.Need-loop-holds Inv-loop μ-loop
-loop-holds c = (omega arith, adds-nothing _)
+sub-bytes : tie.Need-sub-bytes
+sub-bytes c = search needs
 
-shared-slice-read-hex : tie.Need-shared-slice-read-hex Inv-loop μ-loop
-shared-slice-read-hex c = search needs
+part-all-start : tie.Need-part-all-start
+part-all-start c = search needs
 
-hex-requires : tie.Need-hex-requires Inv-loop μ-loop
-hex-requires c κs =
-    let l = c .before .before .loop in
-    let o = c .before .before .before .before .before in
-    (omega arith, omega (arith, hex-count (o .args .self) (l .line) (o .args .reply .now) (l .i) (l .inv .0) (l .inv .1)))
+part-all-end : tie.Need-part-all-end
+part-all-end c = search needs
 
-add-i : tie.Need-add-i Inv-loop μ-loop
-add-i c = search needs
+bytes-requires : tie.Need-bytes-requires
+bytes-requires c κs = search needs
 
-loop-less : tie.Need-loop-less Inv-loop μ-loop
-loop-less c = search needs
+count : (c : tie.After-all3) → c .before .bytes .result ≡ 2 * length (c .before .before .before .before .before .before .args .reply .now)
+count c =
+    let a = c .before .before .before .before .before .before .args in
+    hex-count (a .self) (a .reply .now) _ (omega arith) (omega arith) (c .before .bytes .ensures .0)
 
-loop-again : tie.Need-loop-again Inv-loop μ-loop
-loop-again c =
-    let l = c .before .before .before .loop in
-    let o = c .before .before .before .before .before .before in
-    let s = o .args .reply .now in
-    (omega arith, hex-next (o .args .self) (l .line) (c .hex .result) s (l .i) (omega arith) (l .inv .1) (c .hex .ensures))
+add-t6 : tie.Need-add-t6
+add-t6 c = omega (arith, count c)
 
-returns-2 : tie.Need-returns-2 Inv-loop μ-loop
+returns-2 : tie.Need-returns-2
 returns-2 c =
-    let l = c .before .loop in
-    let o = c .before .before .before .before in
-    let s = o .args .reply .now in
-    (hex-all (o .args .self) (l .line) s (l .i) (omega arith) (omega arith) (l .inv .1), omega (arith, hex-count (o .args .self) (l .line) s (l .i) (l .inv .0) (l .inv .1)))
+    let a = c .before .before .before .before .before .before .args in
+    let w = c .before .bytes .ensures in
+    (adds-reply (a .self) (a .reply .now) _ _ (omega arith) (omega arith) (omega arith) (w .0) (w .1), omega (arith, count c))
 
 pub reply-spec : {M : Type 1} → statement M
 reply-spec =
     tie.close
     (tie.spec
-    Inv-loop
-    μ-loop
     put-requires
     returns
-    loop-holds
-    shared-slice-read-hex
-    hex-requires
-    add-i
-    loop-less
-    loop-again
+    sub-bytes
+    part-all-start
+    part-all-end
+    bytes-requires
+    add-t6
     returns-2)

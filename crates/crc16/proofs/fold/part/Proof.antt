@@ -1,0 +1,57 @@
+-- `crc16::fold::part` meets its contract. Assumes nothing.
+use borrow.Author.Needs.{needs}
+use mathlib.Core.Path.{refl, _∙_}
+use Prim.Native.Nat.{_+_}
+use native.Mathlib.Omega.{arith}
+use lib.Dec.{lit≤}
+use Rattle.crc.proofs.Folding.{carries-part, within-wider}
+use Rattle.crc16.specs.Kinds.{kindOf}
+use Rattle.crc16.proofs.Foldable.{within-one}
+use Rattle.crc16.proofs.fold.part.Statement.{statement}
+use Rattle.crc16.proofs.fold.part.Tie as tie
+
+slice-aggregate-sweep : tie.Need-slice-aggregate-sweep
+slice-aggregate-sweep c = search needs
+
+add-sweep : tie.Need-add-sweep
+add-sweep c = search needs
+
+sweep-requires : tie.Need-sweep-requires
+sweep-requires c κs =
+    let o = c .before .before .before .before .before in
+    let p = o .args .p in
+    (within-wider 2 (p .far) 1 (p .far + p .far) (p .offsets) (lit≤ tt) (omega arith) (o .pre .1 .1 .within), omega arith)
+
+add-move-down : tie.Need-add-move-down
+add-move-down c = search needs
+
+move-down-requires : tie.Need-move-down-requires
+move-down-requires c κs = search needs
+
+same-length : tie.Need-same-length
+same-length c = search needs
+
+returns : tie.Need-returns
+returns c =
+    let o = c .before .before .before .before .before .before .before .before .before .before .before .before in
+    let p = o .args .p in
+    let able = o .pre .1 .1 in
+    let made = carries-part (kindOf p) (p .far) (p .offsets) (within-one p able) (able .multiple)
+    (o .args .s .now) (o .args .b .now) _ _ _ refl
+    (λ i. omega (arith, c .before .before .before .before .before .before .before .before .before .before .before .shared-slice-known .given i))
+    (λ i. omega (arith, c .before .before .before .before .before .before .before .before .before .before .slice-known .given i))
+    (omega arith)
+    (c .before .before .before .before .before .before .sweep .ensures) (c .before .before .move-down .ensures) in
+    (made .0 ∙ o .pre .1 .0, made .1)
+
+pub part-spec : {M : Type 1} → statement M
+part-spec =
+    tie.close
+    (tie.spec
+    slice-aggregate-sweep
+    add-sweep
+    sweep-requires
+    add-move-down
+    move-down-requires
+    same-length
+    returns)
