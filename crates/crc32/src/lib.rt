@@ -9,6 +9,7 @@ mod tables;
 
 ghost use mathlib.Core.Path.{_≡_};
 ghost use Rattle.crc.specs.Crc.{update, finish, checksum, crc32};
+ghost use Rattle.crc.specs.Tables.{Tabled};
 
 // The register before the first byte.
 pub const INIT: u32 = 0xFFFFFFFF;
@@ -25,10 +26,18 @@ pub fn update(register: u32, s: &[u8]) -> u32
     ensures { λ r. ⌜ r ≡ update crc32 register (now (s .entry)) ⌝ }
 {
     let t = tables::TABLES;
+    over(&t, register, s)
+}
+
+// The same by these tables.
+fn over(t: &[u32; 512], register: u32, s: &[u8]) -> u32
+    requires { ⌜ Tabled crc32 16 (now t) ⌝ }
+    ensures { λ r. ⌜ r ≡ update crc32 register (now (s .entry)) ⌝ }
+{
     if s.len() < fold::LEAST {
-        return slicing::over(&t, register, s);
+        return slicing::over(t, register, s);
     }
-    fold::long(&t, register, s)
+    fold::long(t, register, s)
 }
 
 // The CRC-32 that a register stands for once every byte is in.

@@ -1,5 +1,4 @@
 -- `crc32::update` meets its contract: all sixteen tables are tested by computation. Assumes nothing.
-use borrow.Author.Needs.{needs}
 use mathlib.Core.Path.{refl}
 use Rattle.crc.specs.Crc.{bit, bits, byte, crc32}
 use Rattle.crc.proofs.Tables.{first-entry, later-entry, tabled}
@@ -13,12 +12,5 @@ over-requires c κs = tabled crc32 16 _ refl tt
 returns : tie.Need-returns
 returns c = c .over .ensures
 
-long-requires : tie.Need-long-requires
-unfolding first-entry later-entry byte bits bit crc32
-long-requires c κs = (search needs, tabled crc32 16 _ refl tt)
-
-returns-2 : tie.Need-returns-2
-returns-2 c = c .long .ensures
-
 pub update-spec : {M : Type 1} → statement M
-update-spec = tie.close (tie.spec over-requires returns long-requires returns-2)
+update-spec = tie.close (tie.spec over-requires returns)
