@@ -20,15 +20,6 @@ abbrev μ-loop : tie.MeasureT-loop
 loop-holds : tie.Need-loop-holds Inv-loop μ-loop
 loop-holds c = (omega arith, ap (λ (l : List ℕ). gathered l (c .args .b .now) (c .args .at)) (sym (drop-length (c .args .offsets .now))))
 
-sub-n : tie.Need-sub-n Inv-loop μ-loop
-sub-n c = search needs
-
-mul-sum : tie.Need-mul-sum Inv-loop μ-loop
-mul-sum c = search needs
-
-shared-slice-read-sum : tie.Need-shared-slice-read-sum Inv-loop μ-loop
-shared-slice-read-sum c = search needs
-
 sub-sum : tie.Need-sub-sum Inv-loop μ-loop
 sub-sum c = c .before .before .before .pre .0 (c .before .before .loop .n - 1) (omega arith) .1
 
@@ -37,9 +28,6 @@ shared-slice-read-sum-2 c =
     let o = c .before .before .before .before in
     let near = o .pre .0 (c .before .before .before .loop .n - 1) (omega arith) in
     omega (arith, near)
-
-loop-less : tie.Need-loop-less Inv-loop μ-loop
-loop-less c = search needs
 
 loop-again : tie.Need-loop-again Inv-loop μ-loop
 loop-again c =
@@ -61,14 +49,5 @@ pub gather-spec : {M : Type 1} → statement M
 gather-spec =
     tie.close
     (tie.spec
-    Inv-loop
-    μ-loop
-    loop-holds
-    sub-n
-    mul-sum
-    shared-slice-read-sum
-    sub-sum
-    shared-slice-read-sum-2
-    loop-less
-    loop-again
-    returns)
+    Inv-loop μ-loop loop-holds (λ c. search needs) (λ c. search needs) (λ c. search needs) sub-sum shared-slice-read-sum-2
+    (λ c. search needs) loop-again returns)

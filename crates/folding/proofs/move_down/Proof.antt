@@ -20,9 +20,6 @@ abbrev μ-loop : tie.MeasureT-loop
 loop-holds : tie.Need-loop-holds Inv-loop μ-loop
 loop-holds c = (omega arith, paste-zero (c .args .b .now) (c .args .to) (drop (c .args .from) (c .args .b .now)))
 
-add-moved : tie.Need-add-moved Inv-loop μ-loop
-add-moved c = search needs
-
 -- moving bytes keeps their number
 length-kept : (b c : List ℕ) (from to n i : ℕ) → to ≤ from → from + n ≤ length b → i ≤ n → c ≡ paste b to (drop from b) i
     → length c ≡ length b
@@ -39,17 +36,8 @@ fits c =
 slice-read-moved : tie.Need-slice-read-moved Inv-loop μ-loop
 slice-read-moved c = omega (arith, fits c)
 
-add-b : tie.Need-add-b Inv-loop μ-loop
-add-b c = search needs
-
 slice-write-b : tie.Need-slice-write-b Inv-loop μ-loop
 slice-write-b c = omega (arith, fits c)
-
-add-i : tie.Need-add-i Inv-loop μ-loop
-add-i c = search needs
-
-loop-less : tie.Need-loop-less Inv-loop μ-loop
-loop-less c = search needs
 
 loop-again : tie.Need-loop-again Inv-loop μ-loop
 loop-again c =
@@ -74,15 +62,5 @@ pub move-down-spec : {M : Type 1} → statement M
 move-down-spec =
     tie.close
     (tie.spec
-    Inv-loop
-    μ-loop
-    loop-holds
-    add-moved
-    slice-read-moved
-    add-b
-    slice-write-b
-    add-i
-    loop-less
-    loop-again
-    same-length
-    returns)
+    Inv-loop μ-loop loop-holds (λ c. search needs) slice-read-moved (λ c. search needs) slice-write-b (λ c. search needs)
+    (λ c. search needs) loop-again same-length returns)

@@ -21,29 +21,11 @@ loop-holds : tie.Need-loop-holds Inv-loop μ-loop
 unfolding unswept
 loop-holds c = (omega arith, (refl, refl))
 
-add-gather : tie.Need-add-gather Inv-loop μ-loop
-add-gather c = search needs
-
 gather-requires : tie.Need-gather-requires Inv-loop μ-loop
 gather-requires c κs =
     let o = c .before .before .before .before .before in
     let l = c .before .loop in
     (λ n h. let near = o .pre .0 n h in (near .0, omega (arith, near)), omega (arith, l .inv .1 .0))
-
-add-u : tie.Need-add-u Inv-loop μ-loop
-add-u c = search needs
-
-shared-slice-read-u : tie.Need-shared-slice-read-u Inv-loop μ-loop
-shared-slice-read-u c = search needs
-
-slice-write-u : tie.Need-slice-write-u Inv-loop μ-loop
-slice-write-u c = search needs
-
-add-i : tie.Need-add-i Inv-loop μ-loop
-add-i c = search needs
-
-loop-less : tie.Need-loop-less Inv-loop μ-loop
-loop-less c = search needs
 
 loop-again : tie.Need-loop-again Inv-loop μ-loop
 loop-again c =
@@ -73,16 +55,5 @@ pub unsweep-spec : {M : Type 1} → statement M
 unsweep-spec =
     tie.close
     (tie.spec
-    Inv-loop
-    μ-loop
-    loop-holds
-    add-gather
-    gather-requires
-    add-u
-    shared-slice-read-u
-    slice-write-u
-    add-i
-    loop-less
-    loop-again
-    same-length
-    returns)
+    Inv-loop μ-loop loop-holds (λ c. search needs) gather-requires (λ c. search needs) (λ c. search needs) (λ c. search needs)
+    (λ c. search needs) (λ c. search needs) loop-again same-length returns)

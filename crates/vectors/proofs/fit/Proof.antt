@@ -8,9 +8,6 @@ use lib.Seq.{length-take-le}
 use Rattle.vectors.proofs.fit.Statement.{statement}
 use Rattle.vectors.proofs.fit.Tie as tie
 
-least-requires : tie.Need-least-requires
-least-requires c κs = search needs
-
 returns : tie.Need-returns
 returns c =
     let s = c .before .before .args .s .now in
@@ -19,4 +16,4 @@ returns c =
     (h, sym (length-take-le n s h))
 
 pub fit-spec : {M : Type 1} → statement M
-fit-spec = tie.close (tie.spec least-requires returns)
+fit-spec = tie.close (tie.spec (λ c κs. search needs) returns)

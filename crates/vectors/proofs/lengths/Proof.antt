@@ -10,25 +10,9 @@ Inv-loop from to m n₀ n = from ≤ n
 abbrev μ-loop : tie.MeasureT-loop
 μ-loop from to m n₀ n = to - n
 
-loop-holds : tie.Need-loop-holds Inv-loop μ-loop
-loop-holds c = search needs
-
-checksums-requires : tie.Need-checksums-requires Inv-loop μ-loop
-checksums-requires c κs = search needs
-
-add-n : tie.Need-add-n Inv-loop μ-loop
-add-n c = search needs
-
-loop-less : tie.Need-loop-less Inv-loop μ-loop
-loop-less c = search needs
-
-loop-again : tie.Need-loop-again Inv-loop μ-loop
-loop-again c = search needs
-
-returns : tie.Need-returns Inv-loop μ-loop
-returns c = search needs
-
 pub lengths-spec : {M : Type 1} → statement M
 lengths-spec =
     tie.close
-    (tie.spec Inv-loop μ-loop loop-holds checksums-requires add-n loop-less loop-again returns)
+    (tie.spec
+    Inv-loop μ-loop (λ c. search needs) (λ c κs. search needs) (λ c. search needs) (λ c. search needs) (λ c. search needs)
+    (λ c. search needs))

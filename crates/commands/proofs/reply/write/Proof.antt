@@ -13,26 +13,14 @@ use Rattle.commands.proofs.Replies.{byRow, by-row, no-reply, some-reply
 use Rattle.commands.proofs.reply.write.Statement.{statement}
 use Rattle.commands.proofs.reply.write.Tie as tie
 
-row-of-requires : tie.Need-row-of-requires
-row-of-requires c κs = search needs
-
 returns : tie.Need-returns
 returns c =
     let a = c .before .before .before .args in
     let e = no-reply (a .command) (sym (ap (λ (r : Row). r .«reply_length») (c .before .row-of .ensures .is)) ∙ c .if1 .taken) in
     record { gives = sym (unreplied-size (a .command) (a .t2) (a .room .now) e); leaves = sym (unreplied-room (a .command) (a .t2) (a .room .now) e) }
 
-array-share-prefix-data : tie.Need-array-share-prefix-data
-array-share-prefix-data c = search needs
-
 slice-aggregate-write : tie.Need-slice-aggregate-write
 slice-aggregate-write c = sym (length-take-le _ _ (omega arith))
-
-write-requires : tie.Need-write-requires
-write-requires c κs = search needs
-
-same-length : tie.Need-same-length
-same-length c = search needs
 
 returns-2 : tie.Need-returns-2
 returns-2 c =
@@ -50,10 +38,4 @@ pub write-spec : {M : Type 1} → statement M
 write-spec =
     tie.close
     (tie.spec
-    row-of-requires
-    returns
-    array-share-prefix-data
-    slice-aggregate-write
-    write-requires
-    same-length
-    returns-2)
+    (λ c κs. search needs) returns (λ c. search needs) slice-aggregate-write (λ c κs. search needs) (λ c. search needs) returns-2)

@@ -12,24 +12,12 @@ use Rattle.commands.specs.ReplyFields.{isReply}
 use Rattle.commands.proofs.reply_fields.is_reply.Statement.{statement}
 use Rattle.commands.proofs.reply_fields.is_reply.Tie as tie
 
-row-of-requires : tie.Need-row-of-requires
-row-of-requires c κs = search needs
-
-alone-requires : tie.Need-alone-requires
-alone-requires c κs = search needs
-
-command-requires : tie.Need-command-requires
-command-requires c κs = search needs
-
 returns : tie.Need-returns
 unfolding isReply
 returns c =
     let a = c .before .before .before .before .before .before .args in
     let other : eqb (commandAt (a .s .now)) (a .command) ≡ false = ap (λ (x : ℕ). eqb x (a .command)) (sym (c .before .command .ensures)) ∙ ne-eqb _ _ (c .if2 .taken) in
     simp (sym (c .before .before .before .alone .ensures) ∙ c .before .before .if1 .taken, other)
-
-version-requires : tie.Need-version-requires
-version-requires c κs = search needs
 
 returns-2 : tie.Need-returns-2
 unfolding isReply
@@ -41,9 +29,6 @@ returns-2 c =
     ∙ ap (λ (x : ℕ). eqb x (c .before .before .before .before .before .before .before .row-of .result .«reply_version»)) (sym (c .before .before .version .ensures))
     ∙ ne-eqb _ _ (c .if3 .taken) in
     simp (sym (c .before .before .before .before .before .before .alone .ensures) ∙ c .before .before .before .before .before .if1 .taken, own, other)
-
-data-requires : tie.Need-data-requires
-data-requires c κs = search needs
 
 returns-3 : tie.Need-returns-3
 unfolding isReply
@@ -65,12 +50,5 @@ pub is-reply-spec : {M : Type 1} → statement M
 is-reply-spec =
     tie.close
     (tie.spec
-    row-of-requires
-    alone-requires
-    command-requires
-    returns
-    version-requires
-    returns-2
-    data-requires
-    returns-3
-    returns-4)
+    (λ c κs. search needs) (λ c κs. search needs) (λ c κs. search needs) returns (λ c κs. search needs) returns-2
+    (λ c κs. search needs) returns-3 returns-4)

@@ -4,15 +4,9 @@ use Rattle.commands.specs.ReplyFields.{fieldsState}
 use Rattle.commands.proofs.reply_fields.state.Statement.{statement}
 use Rattle.commands.proofs.reply_fields.state.Tie as tie
 
-byte-requires : tie.Need-byte-requires
-byte-requires c κs = search needs
-
-byte-requires-2 : tie.Need-byte-requires-2
-byte-requires-2 c κs = search needs
-
 returns : tie.Need-returns
 unfolding fieldsState
 returns c = simp (c .byte2 .ensures, c .before .byte .ensures)
 
 pub state-spec : {M : Type 1} → statement M
-state-spec = tie.close (tie.spec byte-requires byte-requires-2 returns)
+state-spec = tie.close (tie.spec (λ c κs. search needs) (λ c κs. search needs) returns)

@@ -10,21 +10,6 @@ use Rattle.commands.proofs.Fields.{copied-over}
 use Rattle.commands.proofs.request.pid_in.Statement.{statement}
 use Rattle.commands.proofs.request.pid_in.Tie as tie
 
-sub-copy : tie.Need-sub-copy
-sub-copy c = search needs
-
-part-copy-start : tie.Need-part-copy-start
-part-copy-start c = search needs
-
-part-copy-end : tie.Need-part-copy-end
-part-copy-end c = search needs
-
-slice-aggregate-copy : tie.Need-slice-aggregate-copy
-slice-aggregate-copy c = search needs
-
-copy-requires : tie.Need-copy-requires
-copy-requires c κs = search needs
-
 returns : tie.Need-returns
 returns c =
     let d = c .before .before .before .before .before .args .d .now in
@@ -34,4 +19,5 @@ returns c =
 pub pid-in-spec : {M : Type 1} → statement M
 pid-in-spec =
     tie.close
-    (tie.spec sub-copy part-copy-start part-copy-end slice-aggregate-copy copy-requires returns)
+    (tie.spec
+    (λ c. search needs) (λ c. search needs) (λ c. search needs) (λ c. search needs) (λ c κs. search needs) returns)

@@ -9,12 +9,6 @@ use Rattle.commands.specs.RequestFrames.{requestFrame}
 use Rattle.commands.proofs.request_frame.empty.Statement.{statement}
 use Rattle.commands.proofs.request_frame.empty.Tie as tie
 
-row-of-requires : tie.Need-row-of-requires
-row-of-requires c κs = search needs
-
-empty-requires : tie.Need-empty-requires
-empty-requires c κs = search needs
-
 returns : tie.Need-returns
 unfolding requestFrame
 returns c =
@@ -24,4 +18,4 @@ returns c =
     ∙ no-data (rowAt (placeOf command) .version) command
 
 pub empty-spec : {M : Type 1} → statement M
-empty-spec = tie.close (tie.spec row-of-requires empty-requires returns)
+empty-spec = tie.close (tie.spec (λ c κs. search needs) (λ c κs. search needs) returns)

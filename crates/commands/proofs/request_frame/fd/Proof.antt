@@ -13,14 +13,8 @@ use Rattle.commands.proofs.RequestFrames.{with-field}
 use Rattle.commands.proofs.request_frame.fd.Statement.{statement}
 use Rattle.commands.proofs.request_frame.fd.Tie as tie
 
-head-fd-requires : tie.Need-head-fd-requires
-head-fd-requires c κs = search needs
-
 slice-aggregate-with : tie.Need-slice-aggregate-with
 slice-aggregate-with c = sym (length-take-le 512 (c .before .before .before .before .args .packet .now) (omega arith))
-
-with-requires : tie.Need-with-requires
-with-requires c κs = search needs
 
 returns : tie.Need-returns
 unfolding dataFD
@@ -29,9 +23,6 @@ returns c =
     let p = take maxPacket (a .packet .now) in
     let n : length p ≤ maxPacket = omega (arith, length-take maxPacket (a .packet .now)) in
     c .with .ensures ∙ with-field 0xFD (headFD (a .r)) p (c .before .before .before .head-fd .ensures) refl (omega arith)
-
-with-requires-2 : tie.Need-with-requires-2
-with-requires-2 c κs = search needs
 
 returns-2 : tie.Need-returns-2
 unfolding dataFD
@@ -43,4 +34,7 @@ returns-2 c =
     ∙ ap (λ (p : List ℕ). finished (requestFrame 0xFD (headFD (a .r) ++ p))) all
 
 pub fd-spec : {M : Type 1} → statement M
-fd-spec = tie.close (tie.spec head-fd-requires slice-aggregate-with with-requires returns with-requires-2 returns-2)
+fd-spec =
+    tie.close
+    (tie.spec
+    (λ c κs. search needs) slice-aggregate-with (λ c κs. search needs) returns (λ c κs. search needs) returns-2)

@@ -9,42 +9,6 @@ use Rattle.commands.proofs.RequestFrames.{with-field}
 use Rattle.commands.proofs.request_frame.head_fd.Statement.{statement}
 use Rattle.commands.proofs.request_frame.head_fd.Tie as tie
 
-bytes16-requires : tie.Need-bytes16-requires
-bytes16-requires c κs = search needs
-
-bytes16-requires-2 : tie.Need-bytes16-requires-2
-bytes16-requires-2 c κs = search needs
-
-bytes16-requires-3 : tie.Need-bytes16-requires-3
-bytes16-requires-3 c κs = search needs
-
-empty-requires : tie.Need-empty-requires
-empty-requires c κs = search needs
-
-slice-aggregate-with : tie.Need-slice-aggregate-with
-slice-aggregate-with c = search needs
-
-with-requires : tie.Need-with-requires
-with-requires c κs = search needs
-
-slice-aggregate-with-2 : tie.Need-slice-aggregate-with-2
-slice-aggregate-with-2 c = search needs
-
-with-requires-2 : tie.Need-with-requires-2
-with-requires-2 c κs = search needs
-
-slice-aggregate-with-3 : tie.Need-slice-aggregate-with-3
-slice-aggregate-with-3 c = search needs
-
-with-requires-3 : tie.Need-with-requires-3
-with-requires-3 c κs = search needs
-
-slice-aggregate-with-4 : tie.Need-slice-aggregate-with-4
-slice-aggregate-with-4 c = search needs
-
-with-requires-4 : tie.Need-with-requires-4
-with-requires-4 c κs = search needs
-
 returns : tie.Need-returns
 returns c =
     let r = c .before .before .before .before .before .before .before .before .before .before .before .before .args .r in
@@ -57,4 +21,9 @@ returns c =
     c .with4 .ensures ∙ with-field 0xFD d3 (bytes16 (r .crc)) f3 (c .before .before .before .before .before .before .before .before .before .bytes163 .ensures) (omega arith)
 
 pub head-fd-spec : {M : Type 1} → statement M
-head-fd-spec = tie.close (tie.spec bytes16-requires bytes16-requires-2 bytes16-requires-3 empty-requires slice-aggregate-with with-requires slice-aggregate-with-2 with-requires-2 slice-aggregate-with-3 with-requires-3 slice-aggregate-with-4 with-requires-4 returns)
+head-fd-spec =
+    tie.close
+    (tie.spec
+    (λ c κs. search needs) (λ c κs. search needs) (λ c κs. search needs) (λ c κs. search needs) (λ c. search needs)
+    (λ c κs. search needs) (λ c. search needs) (λ c κs. search needs) (λ c. search needs) (λ c κs. search needs)
+    (λ c. search needs) (λ c κs. search needs) returns)

@@ -9,34 +9,10 @@ use Rattle.commands.proofs.RequestFrames.{with-field}
 use Rattle.commands.proofs.request_frame.named_fb.Statement.{statement}
 use Rattle.commands.proofs.request_frame.named_fb.Tie as tie
 
-empty-requires : tie.Need-empty-requires
-empty-requires c κs = search needs
-
-slice-aggregate-with : tie.Need-slice-aggregate-with
-slice-aggregate-with c = search needs
-
-with-requires : tie.Need-with-requires
-with-requires c κs = search needs
-
-slice-aggregate-with-2 : tie.Need-slice-aggregate-with-2
-slice-aggregate-with-2 c = search needs
-
-with-requires-2 : tie.Need-with-requires-2
-with-requires-2 c κs = search needs
-
-slice-aggregate-with-3 : tie.Need-slice-aggregate-with-3
-slice-aggregate-with-3 c = search needs
-
-with-requires-3 : tie.Need-with-requires-3
-with-requires-3 c κs = search needs
-
 slice-aggregate-with-4 : tie.Need-slice-aggregate-with-4
 slice-aggregate-with-4 c =
     let good = c .before .before .before .before .before .before .before .before .before .before .before .good in
     search needs
-
-with-requires-4 : tie.Need-with-requires-4
-with-requires-4 c κs = search needs
 
 returns : tie.Need-returns
 returns c =
@@ -57,4 +33,8 @@ returns c =
     (c .with4 .ensures ∙ with-field 0xFB d3 (r .md5) f3 refl (omega arith), omega arith)
 
 pub named-fb-spec : {M : Type 1} → statement M
-named-fb-spec = tie.close (tie.spec empty-requires slice-aggregate-with with-requires slice-aggregate-with-2 with-requires-2 slice-aggregate-with-3 with-requires-3 slice-aggregate-with-4 with-requires-4 returns)
+named-fb-spec =
+    tie.close
+    (tie.spec
+    (λ c κs. search needs) (λ c. search needs) (λ c κs. search needs) (λ c. search needs) (λ c κs. search needs)
+    (λ c. search needs) (λ c κs. search needs) slice-aggregate-with-4 (λ c κs. search needs) returns)

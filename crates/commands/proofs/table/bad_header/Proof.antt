@@ -4,9 +4,6 @@ use borrow.Author.Tests.{lt-ltb, le-ltb, eq-eqb, ne-eqb}
 use Rattle.commands.proofs.table.bad_header.Statement.{statement}
 use Rattle.commands.proofs.table.bad_header.Tie as tie
 
-row-at-requires : tie.Need-row-at-requires
-row-at-requires c κs = search needs
-
 returns : tie.Need-returns
 returns c = simp (← c .before .before .row-at .ensures, ne-eqb _ _ (c .if1 .taken))
 
@@ -17,4 +14,4 @@ returns-3 : tie.Need-returns-3
 returns-3 c = simp (← c .before .before .before .before .before .row-at .ensures, eq-eqb _ _ (c .before .before .before .if1 .left), le-ltb _ _ (c .before .if2 .left))
 
 pub bad-header-spec : {M : Type 1} → statement M
-bad-header-spec = tie.close (tie.spec row-at-requires returns returns-2 returns-3)
+bad-header-spec = tie.close (tie.spec (λ c κs. search needs) returns returns-2 returns-3)

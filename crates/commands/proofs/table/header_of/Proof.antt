@@ -5,12 +5,6 @@ use Rattle.commands.specs.Table.{headerOf}
 use Rattle.commands.proofs.table.header_of.Statement.{statement}
 use Rattle.commands.proofs.table.header_of.Tie as tie
 
-place-of-requires : tie.Need-place-of-requires
-place-of-requires c κs = search needs
-
-bad-header-requires : tie.Need-bad-header-requires
-bad-header-requires c κs = search needs
-
 returns : tie.Need-returns
 unfolding headerOf
 returns c = simp (← c .before .before .before .place-of .ensures .0, lt-ltb _ _ (c .before .before .if1 .taken), ← c .before .bad-header .ensures, c .if2 .taken)
@@ -24,5 +18,4 @@ unfolding headerOf
 returns-3 c = simp (← c .before .place-of .ensures .0, le-ltb _ _ (c .if1 .left))
 
 pub header-of-spec : {M : Type 1} → statement M
-header-of-spec =
-    tie.close (tie.spec place-of-requires bad-header-requires returns returns-2 returns-3)
+header-of-spec = tie.close (tie.spec (λ c κs. search needs) (λ c κs. search needs) returns returns-2 returns-3)

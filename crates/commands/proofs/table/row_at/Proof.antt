@@ -5,15 +5,9 @@ use Rattle.commands.specs.Table.{table, rowAt}
 use Rattle.commands.proofs.table.row_at.Statement.{statement}
 use Rattle.commands.proofs.table.row_at.Tie as tie
 
-mul-result : tie.Need-mul-result
-mul-result c = search needs
-
-array-copy-out-result : tie.Need-array-copy-out-result
-array-copy-out-result c = search needs
-
 returns : tie.Need-returns
 unfolding rowAt table
 returns c = refl
 
 pub row-at-spec : {M : Type 1} → statement M
-row-at-spec = tie.close (tie.spec mul-result array-copy-out-result returns)
+row-at-spec = tie.close (tie.spec (λ c. search needs) (λ c. search needs) returns)

@@ -9,12 +9,6 @@ use Rattle.commands.proofs.Rows.{reply-short}
 use Rattle.commands.proofs.table.row_of.Statement.{statement}
 use Rattle.commands.proofs.table.row_of.Tie as tie
 
-place-of-requires : tie.Need-place-of-requires
-place-of-requires c κs = search needs
-
-row-at-requires : tie.Need-row-at-requires
-row-at-requires c κs = search needs
-
 returns : tie.Need-returns
 returns c =
     let n = ap (λ (r : Row). r .«reply_length») (c .row-at .ensures) in
@@ -27,4 +21,4 @@ returns-2 c =
     record { is = sym (ap rowAt e); fits = omega arith }
 
 pub row-of-spec : {M : Type 1} → statement M
-row-of-spec = tie.close (tie.spec place-of-requires row-at-requires returns returns-2)
+row-of-spec = tie.close (tie.spec (λ c κs. search needs) (λ c κs. search needs) returns returns-2)

@@ -7,18 +7,6 @@ use Rattle.controller.specs.Calls.{finishedCall}
 use Rattle.controller.proofs.call.finish.Statement.{statement}
 use Rattle.controller.proofs.call.finish.Tie as tie
 
-answer-requires : tie.Need-answer-requires
-answer-requires c κs = search needs
-
-write-reply-requires : tie.Need-write-reply-requires
-write-reply-requires c κs = search needs
-
-same-length : tie.Need-same-length
-same-length c = search needs
-
-same-length-2 : tie.Need-same-length-2
-same-length-2 c = search needs
-
 returns : tie.Need-returns
 unfolding finishedCall
 returns c =
@@ -39,4 +27,5 @@ returns-2 c = let none = c .if1 .left in record { gives = rw none; leaves-room =
 pub finish-spec : {M : Type 1} → statement M
 finish-spec =
     tie.close
-    (tie.spec answer-requires write-reply-requires same-length same-length-2 returns returns-2)
+    (tie.spec
+    (λ c κs. search needs) (λ c κs. search needs) (λ c. search needs) (λ c. search needs) returns returns-2)

@@ -5,9 +5,6 @@ use Rattle.controller.specs.Calls.{refusalOf}
 use Rattle.controller.proofs.call.refusal.Statement.{statement}
 use Rattle.controller.proofs.call.refusal.Tie as tie
 
-unlawful-requires : tie.Need-unlawful-requires
-unlawful-requires c κs = search needs
-
 returns : tie.Need-returns
 unfolding refusalOf
 returns c = simp (← c .before .unlawful .ensures, c .if1 .taken)
@@ -25,4 +22,4 @@ unfolding refusalOf
 returns-4 c = simp (← c .before .before .before .before .before .unlawful .ensures, c .before .before .before .before .if1 .left, eq-eqb _ _ (c .before .if2 .left), le-ltb _ _ (c .if3 .left))
 
 pub refusal-spec : {M : Type 1} → statement M
-refusal-spec = tie.close (tie.spec unlawful-requires returns returns-2 returns-3 returns-4)
+refusal-spec = tie.close (tie.spec (λ c κs. search needs) returns returns-2 returns-3 returns-4)

@@ -3,12 +3,6 @@ use borrow.Author.Needs.{needs}
 use Rattle.controller.proofs.call.write_reply.Statement.{statement}
 use Rattle.controller.proofs.call.write_reply.Tie as tie
 
-write-requires : tie.Need-write-requires
-write-requires c κs = search needs
-
-same-length : tie.Need-same-length
-same-length c = search needs
-
 returns : tie.Need-returns
 returns c =
     let is = c .before .before .before .before .if1 .taken in
@@ -18,4 +12,4 @@ returns-2 : tie.Need-returns-2
 returns-2 c = let not = c .if1 .left in record { gives = rw not; leaves = rw not }
 
 pub write-reply-spec : {M : Type 1} → statement M
-write-reply-spec = tie.close (tie.spec write-requires same-length returns returns-2)
+write-reply-spec = tie.close (tie.spec (λ c κs. search needs) (λ c. search needs) returns returns-2)

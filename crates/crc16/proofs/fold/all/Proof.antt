@@ -22,24 +22,6 @@ loop-holds : tie.Need-loop-holds Inv-loop μ-loop
 unfolding update
 loop-holds c = (omega arith, (search needs, λ r at. at))
 
-sub-part-size : tie.Need-sub-part-size Inv-loop μ-loop
-sub-part-size c = search needs
-
-part-size-requires : tie.Need-part-size-requires Inv-loop μ-loop
-part-size-requires c κs = search needs
-
-add-end : tie.Need-add-end Inv-loop μ-loop
-add-end c = search needs
-
-sub-part : tie.Need-sub-part Inv-loop μ-loop
-sub-part c = search needs
-
-part-part-start : tie.Need-part-part-start Inv-loop μ-loop
-part-part-start c = search needs
-
-part-part-end : tie.Need-part-part-end Inv-loop μ-loop
-part-part-end c = search needs
-
 part-requires : tie.Need-part-requires Inv-loop μ-loop
 part-requires c κs =
     let o = c .before .before .before .before .before .before .before in
@@ -48,9 +30,6 @@ part-requires c κs =
     let some : length (take (l .i + n - l .i) (drop (l .i) (o .args .s .now))) ≡ l .i + n - l .i =
     length-take-le (l .i + n - l .i) (drop (l .i) (o .args .s .now)) (rw length-drop (omega arith)) in
     (omega arith, (l .inv .1 .0, o .pre .1))
-
-loop-less : tie.Need-loop-less Inv-loop μ-loop
-loop-less c = search needs
 
 loop-again : tie.Need-loop-again Inv-loop μ-loop
 loop-again c =
@@ -67,9 +46,6 @@ loop-again c =
       ),
     )
 
-same-length : tie.Need-same-length Inv-loop μ-loop
-same-length c = search needs
-
 returns : tie.Need-returns Inv-loop μ-loop
 returns c =
     let o = c .before .before .before .before in
@@ -82,17 +58,5 @@ pub all-spec : {M : Type 1} → statement M
 all-spec =
     tie.close
     (tie.spec
-    Inv-loop
-    μ-loop
-    loop-holds
-    sub-part-size
-    part-size-requires
-    add-end
-    sub-part
-    part-part-start
-    part-part-end
-    part-requires
-    loop-less
-    loop-again
-    same-length
-    returns)
+    Inv-loop μ-loop loop-holds (λ c. search needs) (λ c κs. search needs) (λ c. search needs) (λ c. search needs)
+    (λ c. search needs) (λ c. search needs) part-requires (λ c. search needs) loop-again (λ c. search needs) returns)

@@ -10,19 +10,10 @@ use Rattle.crc16.proofs.Foldable.{within-one}
 use Rattle.crc16.proofs.fold.last.Statement.{statement}
 use Rattle.crc16.proofs.fold.last.Tie as tie
 
-slice-aggregate-unsweep : tie.Need-slice-aggregate-unsweep
-slice-aggregate-unsweep c = search needs
-
 unsweep-requires : tie.Need-unsweep-requires
 unsweep-requires c κs =
     let o = c .before .before .before .before .before in
     (within-one (o .args .p) (o .pre .1 .1 .1), omega arith)
-
-over-requires : tie.Need-over-requires
-over-requires c κs = search needs
-
-same-length : tie.Need-same-length
-same-length c = search needs
 
 returns : tie.Need-returns
 returns c =
@@ -34,5 +25,4 @@ returns c =
     ∙ ap (λ (n : ℕ). unswept (p .offsets) (p .far) n (o .args .b .now)) (o .pre .1 .0))
 
 pub last-spec : {M : Type 1} → statement M
-last-spec =
-    tie.close (tie.spec slice-aggregate-unsweep unsweep-requires over-requires same-length returns)
+last-spec = tie.close (tie.spec (λ c. search needs) unsweep-requires (λ c κs. search needs) (λ c. search needs) returns)

@@ -13,33 +13,6 @@ use Rattle.crc16.proofs.TwoBytes.{used-up}
 use Rattle.crc16.proofs.fold.long.Statement.{statement}
 use Rattle.crc16.proofs.fold.long.Tie as tie
 
-slice-aggregate-put-head : tie.Need-slice-aggregate-put-head
-slice-aggregate-put-head c = search needs
-
-put-head-requires : tie.Need-put-head-requires
-put-head-requires c κs = search needs
-
-sub-all : tie.Need-sub-all
-sub-all c = search needs
-
-part-all-start : tie.Need-part-all-start
-part-all-start c = search needs
-
-part-all-end : tie.Need-part-all-end
-part-all-end c = search needs
-
-slice-aggregate-all : tie.Need-slice-aggregate-all
-slice-aggregate-all c = search needs
-
-all-requires : tie.Need-all-requires
-all-requires c κs = search needs
-
-slice-aggregate-last : tie.Need-slice-aggregate-last
-slice-aggregate-last c = search needs
-
-array-borrow-prefix-u : tie.Need-array-borrow-prefix-u
-array-borrow-prefix-u c = search needs
-
 -- the bytes that are lent for the last ones
 lent : (far : ℕ) → far ≤ maxFar → length (take {A = ℕ} far (replicate maxFar 0)) ≡ far
 lent far h = length-take-le {A = ℕ} far (replicate maxFar 0) h
@@ -71,15 +44,5 @@ pub long-spec : {M : Type 1} → statement M
 long-spec =
     tie.close
     (tie.spec
-    slice-aggregate-put-head
-    put-head-requires
-    sub-all
-    part-all-start
-    part-all-end
-    slice-aggregate-all
-    all-requires
-    slice-aggregate-last
-    array-borrow-prefix-u
-    slice-aggregate-last-2
-    last-requires
-    returns)
+    (λ c. search needs) (λ c κs. search needs) (λ c. search needs) (λ c. search needs) (λ c. search needs) (λ c. search needs)
+    (λ c κs. search needs) (λ c. search needs) (λ c. search needs) slice-aggregate-last-2 last-requires returns)

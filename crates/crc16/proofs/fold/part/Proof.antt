@@ -10,26 +10,11 @@ use Rattle.crc16.proofs.Foldable.{within-one}
 use Rattle.crc16.proofs.fold.part.Statement.{statement}
 use Rattle.crc16.proofs.fold.part.Tie as tie
 
-slice-aggregate-sweep : tie.Need-slice-aggregate-sweep
-slice-aggregate-sweep c = search needs
-
-add-sweep : tie.Need-add-sweep
-add-sweep c = search needs
-
 sweep-requires : tie.Need-sweep-requires
 sweep-requires c κs =
     let o = c .before .before .before .before .before in
     let p = o .args .p in
     (within-wider 2 (p .far) 1 (p .far + p .far) (p .offsets) (lit≤ tt) (omega arith) (o .pre .1 .1 .within), omega arith)
-
-add-move-down : tie.Need-add-move-down
-add-move-down c = search needs
-
-move-down-requires : tie.Need-move-down-requires
-move-down-requires c κs = search needs
-
-same-length : tie.Need-same-length
-same-length c = search needs
 
 returns : tie.Need-returns
 returns c =
@@ -48,10 +33,4 @@ pub part-spec : {M : Type 1} → statement M
 part-spec =
     tie.close
     (tie.spec
-    slice-aggregate-sweep
-    add-sweep
-    sweep-requires
-    add-move-down
-    move-down-requires
-    same-length
-    returns)
+    (λ c. search needs) (λ c. search needs) sweep-requires (λ c. search needs) (λ c κs. search needs) (λ c. search needs) returns)

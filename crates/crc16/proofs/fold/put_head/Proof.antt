@@ -11,38 +11,8 @@ use Rattle.crc16.proofs.TwoBytes.{two-met}
 use Rattle.crc16.proofs.fold.put_head.Statement.{statement}
 use Rattle.crc16.proofs.fold.put_head.Tie as tie
 
-sub-at : tie.Need-sub-at
-sub-at c = search needs
-
-add-at : tie.Need-add-at
-add-at c = search needs
-
-rest-requires : tie.Need-rest-requires
-rest-requires c κs = search needs
-
-front-requires : tie.Need-front-requires
-front-requires c κs = search needs
-
-shared-slice-read-b : tie.Need-shared-slice-read-b
-shared-slice-read-b c = search needs
-
-slice-write-b : tie.Need-slice-write-b
-slice-write-b c = search needs
-
-front-requires-2 : tie.Need-front-requires-2
-front-requires-2 c κs = search needs
-
-shared-slice-read-b-2 : tie.Need-shared-slice-read-b-2
-shared-slice-read-b-2 c = search needs
-
-add-b : tie.Need-add-b
-add-b c = search needs
-
 slice-write-b-2 : tie.Need-slice-write-b-2
 slice-write-b-2 c = rw length-set (omega arith)
-
-same-length : tie.Need-same-length
-same-length c = search needs
 
 returns : tie.Need-returns
 returns c =
@@ -61,15 +31,5 @@ pub put-head-spec : {M : Type 1} → statement M
 put-head-spec =
     tie.close
     (tie.spec
-    sub-at
-    add-at
-    rest-requires
-    front-requires
-    shared-slice-read-b
-    slice-write-b
-    front-requires-2
-    shared-slice-read-b-2
-    add-b
-    slice-write-b-2
-    same-length
-    returns)
+    (λ c. search needs) (λ c. search needs) (λ c κs. search needs) (λ c κs. search needs) (λ c. search needs) (λ c. search needs)
+    (λ c κs. search needs) (λ c. search needs) (λ c. search needs) slice-write-b-2 (λ c. search needs) returns)

@@ -3,17 +3,11 @@ use borrow.Author.Needs.{needs}
 use Rattle.crc16.proofs.register.front.Statement.{statement}
 use Rattle.crc16.proofs.register.front.Tie as tie
 
-cast-result : tie.Need-cast-result
-cast-result c = search needs
-
 returns : tie.Need-returns
 returns c = simp (c .if1 .taken)
-
-cast-result-2 : tie.Need-cast-result-2
-cast-result-2 c = search needs
 
 returns-2 : tie.Need-returns-2
 returns-2 c = simp (c .if1 .left)
 
 pub front-spec : {M : Type 1} → statement M
-front-spec = tie.close (tie.spec cast-result returns cast-result-2 returns-2)
+front-spec = tie.close (tie.spec (λ c. search needs) returns (λ c. search needs) returns-2)

@@ -4,19 +4,13 @@ use Rattle.crc.specs.Crc.{finish, checksum}
 use Rattle.crc16.proofs.register.over.Statement.{statement}
 use Rattle.crc16.proofs.register.over.Tie as tie
 
-over-requires : tie.Need-over-requires
-over-requires c κs = search needs
-
 returns : tie.Need-returns
 unfolding checksum finish
 returns c = c .over .ensures
-
-long-requires : tie.Need-long-requires
-long-requires c κs = search needs
 
 returns-2 : tie.Need-returns-2
 unfolding checksum finish
 returns-2 c = c .long .ensures
 
 pub over-spec : {M : Type 1} → statement M
-over-spec = tie.close (tie.spec over-requires returns long-requires returns-2)
+over-spec = tie.close (tie.spec (λ c κs. search needs) returns (λ c κs. search needs) returns-2)

@@ -6,11 +6,8 @@ use Rattle.crc16.proofs.register.rest.Tie as tie
 returns : tie.Need-returns
 returns c = simp (c .if1 .taken)
 
-mul-result : tie.Need-mul-result
-mul-result c = search needs
-
 returns-2 : tie.Need-returns-2
 returns-2 c = simp (c .if1 .left)
 
 pub rest-spec : {M : Type 1} → statement M
-rest-spec = tie.close (tie.spec returns mul-result returns-2)
+rest-spec = tie.close (tie.spec returns (λ c. search needs) returns-2)

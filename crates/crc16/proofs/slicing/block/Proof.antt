@@ -8,27 +8,6 @@ use Rattle.crc16.specs.Kinds.{kindOf}
 use Rattle.crc16.proofs.slicing.block.Statement.{statement}
 use Rattle.crc16.proofs.slicing.block.Tie as tie
 
-add-i1 : tie.Need-add-i1
-add-i1 c = search needs
-
-add-i2 : tie.Need-add-i2
-add-i2 c = search needs
-
-add-i3 : tie.Need-add-i3
-add-i3 c = search needs
-
-two-requires : tie.Need-two-requires
-two-requires c κs = search needs
-
-two-requires-2 : tie.Need-two-requires-2
-two-requires-2 c κs = search needs
-
-two-requires-3 : tie.Need-two-requires-3
-two-requires-3 c κs = search needs
-
-two-requires-4 : tie.Need-two-requires-4
-two-requires-4 c κs = search needs
-
 returns : tie.Need-returns
 unfolding zeroBytes
 returns c =
@@ -46,11 +25,5 @@ pub block-spec : {M : Type 1} → statement M
 block-spec =
     tie.close
     (tie.spec
-    add-i1
-    add-i2
-    add-i3
-    two-requires
-    two-requires-2
-    two-requires-3
-    two-requires-4
-    returns)
+    (λ c. search needs) (λ c. search needs) (λ c. search needs) (λ c κs. search needs) (λ c κs. search needs)
+    (λ c κs. search needs) (λ c κs. search needs) returns)

@@ -7,12 +7,6 @@ use Rattle.crc16.specs.Kinds.{kindOf}
 use Rattle.crc16.proofs.slicing.next.Statement.{statement}
 use Rattle.crc16.proofs.slicing.next.Tie as tie
 
-entry-requires : tie.Need-entry-requires
-entry-requires c κs = search needs
-
-rest-requires : tie.Need-rest-requires
-rest-requires c κs = search needs
-
 returns : tie.Need-returns
 unfolding zeroBytes
 returns c =
@@ -20,4 +14,4 @@ returns c =
     cc (byte-table (kindOf (o .args .p)) (lit≤ tt) (o .args .register) (o .args .b))
 
 pub next-spec : {M : Type 1} → statement M
-next-spec = tie.close (tie.spec entry-requires rest-requires returns)
+next-spec = tie.close (tie.spec (λ c κs. search needs) (λ c κs. search needs) returns)

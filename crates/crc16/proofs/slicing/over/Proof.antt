@@ -19,32 +19,8 @@ loop-holds : tie.Need-loop-holds Inv-loop μ-loop
 unfolding update
 loop-holds c = (search needs, refl)
 
-sub-loop : tie.Need-sub-loop Inv-loop μ-loop
-sub-loop c = search needs
-
-block-requires : tie.Need-block-requires Inv-loop μ-loop
-block-requires c κs = search needs
-
-add-i : tie.Need-add-i Inv-loop μ-loop
-add-i c = search needs
-
-loop-less : tie.Need-loop-less Inv-loop μ-loop
-loop-less c = search needs
-
 loop-again : tie.Need-loop-again Inv-loop μ-loop
 loop-again c = (search needs, c .block .ensures ∙ update-skip _ _ _ (c .before .before .loop .i) 8 (c .before .before .loop .inv .1))
-
-sub-one-by-one : tie.Need-sub-one-by-one Inv-loop μ-loop
-sub-one-by-one c = search needs
-
-part-one-by-one-start : tie.Need-part-one-by-one-start Inv-loop μ-loop
-part-one-by-one-start c = search needs
-
-part-one-by-one-end : tie.Need-part-one-by-one-end Inv-loop μ-loop
-part-one-by-one-end c = search needs
-
-one-by-one-requires : tie.Need-one-by-one-requires Inv-loop μ-loop
-one-by-one-requires c κs = search needs
 
 returns : tie.Need-returns Inv-loop μ-loop
 returns c =
@@ -55,16 +31,5 @@ pub over-spec : {M : Type 1} → statement M
 over-spec =
     tie.close
     (tie.spec
-    Inv-loop
-    μ-loop
-    loop-holds
-    sub-loop
-    block-requires
-    add-i
-    loop-less
-    loop-again
-    sub-one-by-one
-    part-one-by-one-start
-    part-one-by-one-end
-    one-by-one-requires
-    returns)
+    Inv-loop μ-loop loop-holds (λ c. search needs) (λ c κs. search needs) (λ c. search needs) (λ c. search needs) loop-again
+    (λ c. search needs) (λ c. search needs) (λ c. search needs) (λ c κs. search needs) returns)

@@ -10,23 +10,8 @@ use Rattle.crc32.proofs.Foldable.{within-four, within-one, offsets-mult
 use Rattle.crc32.proofs.fold.part.Statement.{statement}
 use Rattle.crc32.proofs.fold.part.Tie as tie
 
-slice-aggregate-sweep : tie.Need-slice-aggregate-sweep
-slice-aggregate-sweep c = search needs
-
-add-sweep : tie.Need-add-sweep
-add-sweep c = search needs
-
 sweep-requires : tie.Need-sweep-requires
 sweep-requires c κs = (within-wider 4 far 1 _ offsets (lit≤ tt) (lit≤ tt) within-four, omega arith)
-
-add-move-down : tie.Need-add-move-down
-add-move-down c = search needs
-
-move-down-requires : tie.Need-move-down-requires
-move-down-requires c κs = search needs
-
-same-length : tie.Need-same-length
-same-length c = search needs
 
 returns : tie.Need-returns
 returns c =
@@ -41,10 +26,4 @@ pub part-spec : {M : Type 1} → statement M
 part-spec =
     tie.close
     (tie.spec
-    slice-aggregate-sweep
-    add-sweep
-    sweep-requires
-    add-move-down
-    move-down-requires
-    same-length
-    returns)
+    (λ c. search needs) (λ c. search needs) sweep-requires (λ c. search needs) (λ c κs. search needs) (λ c. search needs) returns)

@@ -7,12 +7,9 @@ use Rattle.crc.proofs.TableStep.{byte-table}
 use Rattle.crc32.proofs.slicing.next.Statement.{statement}
 use Rattle.crc32.proofs.slicing.next.Tie as tie
 
-entry-requires : tie.Need-entry-requires
-entry-requires c κs = search needs
-
 returns : tie.Need-returns
 unfolding crc32 zeroBytes
 returns c = cc (byte-table crc32 (lit≤ tt) _ _)
 
 pub next-spec : {M : Type 1} → statement M
-next-spec = tie.close (tie.spec entry-requires returns)
+next-spec = tie.close (tie.spec (λ c κs. search needs) returns)

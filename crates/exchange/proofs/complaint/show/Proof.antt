@@ -17,34 +17,16 @@ abbrev μ-loop : tie.MeasureT-loop
 loop-holds : tie.Need-loop-holds Inv-loop μ-loop
 loop-holds c = (omega arith, refl)
 
-same-length : tie.Need-same-length Inv-loop μ-loop
-same-length c = search needs
-
 returns : tie.Need-returns Inv-loop μ-loop
 returns c =
     let l = c .before .before .loop in
     (omega arith, sym (length-take-le (l .i) (l .shown) (omega arith)))
-
-shared-slice-read-on-a-line : tie.Need-shared-slice-read-on-a-line Inv-loop μ-loop
-shared-slice-read-on-a-line c = search needs
-
-on-a-line-requires : tie.Need-on-a-line-requires Inv-loop μ-loop
-on-a-line-requires c κs = search needs
-
-slice-write-shown : tie.Need-slice-write-shown Inv-loop μ-loop
-slice-write-shown c = search needs
-
-add-i : tie.Need-add-i Inv-loop μ-loop
-add-i c = search needs
 
 loop-less : tie.Need-loop-less Inv-loop μ-loop
 loop-less c = simp length-set (omega arith)
 
 loop-again : tie.Need-loop-again Inv-loop μ-loop
 loop-again c = simp length-set (omega arith)
-
-same-length-2 : tie.Need-same-length-2 Inv-loop μ-loop
-same-length-2 c = search needs
 
 returns-2 : tie.Need-returns-2 Inv-loop μ-loop
 returns-2 c =
@@ -55,16 +37,5 @@ pub show-spec : {M : Type 1} → statement M
 show-spec =
     tie.close
     (tie.spec
-    Inv-loop
-    μ-loop
-    loop-holds
-    same-length
-    returns
-    shared-slice-read-on-a-line
-    on-a-line-requires
-    slice-write-shown
-    add-i
-    loop-less
-    loop-again
-    same-length-2
-    returns-2)
+    Inv-loop μ-loop loop-holds (λ c. search needs) returns (λ c. search needs) (λ c κs. search needs) (λ c. search needs)
+    (λ c. search needs) loop-less loop-again (λ c. search needs) returns-2)

@@ -7,15 +7,6 @@ use Rattle.controller.specs.Calls.{fedCall, Leaves}
 use Rattle.exchange.proofs.ends.feed.Statement.{statement}
 use Rattle.exchange.proofs.ends.feed.Tie as tie
 
-slice-aggregate-front : tie.Need-slice-aggregate-front
-slice-aggregate-front c = search needs
-
-front-requires : tie.Need-front-requires
-front-requires c κs = search needs
-
-feed-requires : tie.Need-feed-requires
-feed-requires c κs = search needs
-
 returns : tie.Need-returns
 returns c =
     let a = c .before .before .before .before .before .before .args in
@@ -23,4 +14,4 @@ returns c =
     subst (λ (s : List ℕ). Leaves (fedCall s (a .«record») (a .room .now) (a .area .now)) (c .feed .result) (c .feed .last .1 .1 .0) (c .feed .last .1 .1 .1 .0)) f (c .feed .ensures)
 
 pub feed-spec : {M : Type 1} → statement M
-feed-spec = tie.close (tie.spec slice-aggregate-front front-requires feed-requires returns)
+feed-spec = tie.close (tie.spec (λ c. search needs) (λ c κs. search needs) (λ c κs. search needs) returns)

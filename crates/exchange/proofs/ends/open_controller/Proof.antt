@@ -6,16 +6,10 @@ use Rattle.exchange.proofs.Openings.{controller-opens}
 use Rattle.exchange.proofs.ends.open_controller.Statement.{statement}
 use Rattle.exchange.proofs.ends.open_controller.Tie as tie
 
-array-set-from-boards : tie.Need-array-set-from-boards
-array-set-from-boards c = search needs
-
-open-requires : tie.Need-open-requires
-open-requires c κs = search needs
-
 returns : tie.Need-returns
 returns c =
     let o = c .before .before in
     ap (λ (x : Opened). x .next) (c .before .«open» .ensures) ∙ controller-opens (o .args .channel) (o .pre .0) (o .pre .1)
 
 pub open-controller-spec : {M : Type 1} → statement M
-open-controller-spec = tie.close (tie.spec array-set-from-boards open-requires returns)
+open-controller-spec = tie.close (tie.spec (λ c. search needs) (λ c κs. search needs) returns)

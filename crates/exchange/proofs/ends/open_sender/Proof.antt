@@ -6,13 +6,10 @@ use Rattle.exchange.proofs.Openings.{sender-opens}
 use Rattle.exchange.proofs.ends.open_sender.Statement.{statement}
 use Rattle.exchange.proofs.ends.open_sender.Tie as tie
 
-open-requires : tie.Need-open-requires
-open-requires c κs = search needs
-
 returns : tie.Need-returns
 returns c =
     let o = c .before .before .before in
     ap (λ (x : Opened). x .sender) (c .before .«open» .ensures) ∙ sender-opens (o .args .channel) (o .args .size) _ (o .pre .0) (o .pre .1 .0) (o .pre .1 .1)
 
 pub open-sender-spec : {M : Type 1} → statement M
-open-sender-spec = tie.close (tie.spec open-requires returns)
+open-sender-spec = tie.close (tie.spec (λ c κs. search needs) returns)

@@ -12,15 +12,6 @@ use Rattle.link.specs.declared.frame.Frame.{Frame}
 use Rattle.exchange.proofs.ends.reply.Statement.{statement}
 use Rattle.exchange.proofs.ends.reply.Tie as tie
 
-slice-aggregate-copy : tie.Need-slice-aggregate-copy
-slice-aggregate-copy c = search needs
-
-slice-aggregate-copy-2 : tie.Need-slice-aggregate-copy-2
-slice-aggregate-copy-2 c = search needs
-
-copy-requires : tie.Need-copy-requires
-copy-requires c κs = search needs
-
 returns : tie.Need-returns
 returns c =
     let a = c .before .before .before .before .args in
@@ -28,4 +19,4 @@ returns c =
     ap made (c .before .copy .ensures .1 ∙ ap (λ (s : List ℕ). s ++ drop (length (a .t1)) (zeros maxFrame)) (take-length (a .t1)))
 
 pub reply-spec : {M : Type 1} → statement M
-reply-spec = tie.close (tie.spec slice-aggregate-copy slice-aggregate-copy-2 copy-requires returns)
+reply-spec = tie.close (tie.spec (λ c. search needs) (λ c. search needs) (λ c κs. search needs) returns)

@@ -9,12 +9,6 @@ use Rattle.link.specs.declared.frame.Frame.{Frame}
 use Rattle.exchange.proofs.ends.request.Statement.{statement}
 use Rattle.exchange.proofs.ends.request.Tie as tie
 
-slice-aggregate-request : tie.Need-slice-aggregate-request
-slice-aggregate-request c = search needs
-
-request-requires : tie.Need-request-requires
-request-requires c κs = search needs
-
 returns : tie.Need-returns
 returns c =
     let e = c .before .request .ensures in
@@ -22,4 +16,4 @@ returns c =
     ap₂ made (e .1) (ap (λ (r : Requested). r .length) (e .0))
 
 pub request-spec : {M : Type 1} → statement M
-request-spec = tie.close (tie.spec slice-aggregate-request request-requires returns)
+request-spec = tie.close (tie.spec (λ c. search needs) (λ c κs. search needs) returns)

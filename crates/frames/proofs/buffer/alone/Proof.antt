@@ -5,15 +5,6 @@ use Rattle.frames.specs.Buffer.{aloneAt}
 use Rattle.frames.proofs.buffer.alone.Statement.{statement}
 use Rattle.frames.proofs.buffer.alone.Tie as tie
 
-whole-requires : tie.Need-whole-requires
-whole-requires c κs = search needs
-
-data-requires : tie.Need-data-requires
-data-requires c κs = search needs
-
-add-result : tie.Need-add-result
-add-result c = search needs
-
 returns : tie.Need-returns
 unfolding aloneAt
 returns c = simp (sym (c .before .before .whole .ensures) ∙ c .before .if1 .taken, c .«data» .ensures)
@@ -23,4 +14,4 @@ unfolding aloneAt
 returns-2 c = simp (sym (c .before .whole .ensures) ∙ c .if1 .left)
 
 pub alone-spec : {M : Type 1} → statement M
-alone-spec = tie.close (tie.spec whole-requires data-requires add-result returns returns-2)
+alone-spec = tie.close (tie.spec (λ c κs. search needs) (λ c κs. search needs) (λ c. search needs) returns returns-2)

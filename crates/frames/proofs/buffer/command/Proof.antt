@@ -8,9 +8,6 @@ use Rattle.frames.proofs.Fronts.{is-whole, whole-passed}
 use Rattle.frames.proofs.buffer.command.Statement.{statement}
 use Rattle.frames.proofs.buffer.command.Tie as tie
 
-whole-requires : tie.Need-whole-requires
-whole-requires c κs = search needs
-
 shared-slice-read-result : tie.Need-shared-slice-read-result
 unfolding wholeAt
 shared-slice-read-result c = omega (arith, whole-passed _ (is-whole _ (sym (c .before .before .whole .ensures) ∙ c .before .if1 .taken)) .there)
@@ -24,4 +21,4 @@ unfolding commandAt
 returns-2 c = simp (sym (c .before .whole .ensures) ∙ c .if1 .left)
 
 pub command-spec : {M : Type 1} → statement M
-command-spec = tie.close (tie.spec whole-requires shared-slice-read-result returns returns-2)
+command-spec = tie.close (tie.spec (λ c κs. search needs) shared-slice-read-result returns returns-2)

@@ -21,12 +21,6 @@ module _ (c : tie.Then1) where
   unfolding wholeAt
   all-there = whole-passed s (is-whole _ (sym (c .before .whole .ensures) ∙ c .if1 .taken)) .there
 
-whole-requires : tie.Need-whole-requires
-whole-requires c κs = search needs
-
-slice-aggregate-length-at : tie.Need-slice-aggregate-length-at
-slice-aggregate-length-at c = search needs
-
 length-at-requires : tie.Need-length-at-requires
 length-at-requires c κs = omega (arith, all-there (c .before))
 
@@ -34,20 +28,8 @@ length-at-requires c κs = omega (arith, all-there (c .before))
 announced : (c : tie.After-length-at) → c .length-at .result ≡ lengthAt (s (c .before .before))
 announced c = c .length-at .ensures .0 ∙ ap lengthAt (append-nil (s (c .before .before)))
 
-add-end : tie.Need-add-end
-add-end c = search needs
-
-sub-result : tie.Need-sub-result
-sub-result c = search needs
-
-part-result-start : tie.Need-part-result-start
-part-result-start c = search needs
-
 part-result-end : tie.Need-part-result-end
 part-result-end c = omega (arith, all-there (c .before .before), announced c)
-
-slice-aggregate-result : tie.Need-slice-aggregate-result
-slice-aggregate-result c = search needs
 
 returns : tie.Need-returns
 unfolding dataAt wholeAt frameAt
@@ -67,13 +49,5 @@ pub data-spec : {M : Type 1} → statement M
 data-spec =
     tie.close
     (tie.spec
-    whole-requires
-    slice-aggregate-length-at
-    length-at-requires
-    add-end
-    sub-result
-    part-result-start
-    part-result-end
-    slice-aggregate-result
-    returns
-    returns-2)
+    (λ c κs. search needs) (λ c. search needs) length-at-requires (λ c. search needs) (λ c. search needs) (λ c. search needs)
+    part-result-end (λ c. search needs) returns returns-2)

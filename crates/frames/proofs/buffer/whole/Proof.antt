@@ -6,18 +6,6 @@ use Rattle.frames.specs.Buffer.{wholeAt}
 use Rattle.frames.proofs.buffer.whole.Statement.{statement}
 use Rattle.frames.proofs.buffer.whole.Tie as tie
 
-front-of-requires : tie.Need-front-of-requires
-front-of-requires c κs = search needs
-
-enum-told : tie.Need-enum-told
-enum-told c = search needs
-
-enum-told-2 : tie.Need-enum-told-2
-enum-told-2 c = search needs
-
-enum-told-3 : tie.Need-enum-told-3
-enum-told-3 c = search needs
-
 returns : tie.Need-returns
 unfolding wholeAt
 returns c = sym (ap isWhole (sym (c .before .before .front-of .ensures) ∙ c .enum-told .given .1))
@@ -33,4 +21,5 @@ returns-3 c = sym (ap isWhole (sym (c .before .before .front-of .ensures) ∙ c 
 pub whole-spec : {M : Type 1} → statement M
 whole-spec =
     tie.close
-    (tie.spec front-of-requires enum-told enum-told-2 enum-told-3 returns returns-2 returns-3)
+    (tie.spec
+    (λ c κs. search needs) (λ c. search needs) (λ c. search needs) (λ c. search needs) returns returns-2 returns-3)

@@ -7,16 +7,10 @@ use Rattle.frames.specs.Fronts.{frontOf}
 use Rattle.frames.proofs.front.front_of.Statement.{statement}
 use Rattle.frames.proofs.front.front_of.Tie as tie
 
-slice-aggregate-front-at : tie.Need-slice-aggregate-front-at
-slice-aggregate-front-at c = search needs
-
-front-at-requires : tie.Need-front-at-requires
-front-at-requires c κs = search needs
-
 returns : tie.Need-returns
 returns c =
     let s = c .before .before .before .args .s .now in
     c .front-at .ensures ∙ ap frontOf (take-append-seam s [])
 
 pub front-of-spec : {M : Type 1} → statement M
-front-of-spec = tie.close (tie.spec slice-aggregate-front-at front-at-requires returns)
+front-of-spec = tie.close (tie.spec (λ c. search needs) (λ c κs. search needs) returns)

@@ -57,9 +57,6 @@ add-start c = omega (arith, fits c)
 add-end : tie.Need-add-end
 add-end c = omega (arith, fits c)
 
-slice-aggregate-copy : tie.Need-slice-aggregate-copy
-slice-aggregate-copy c = search needs
-
 copy-requires : tie.Need-copy-requires
 copy-requires c κs = omega (arith, fits (c .before))
 
@@ -102,13 +99,5 @@ pub frame-at-spec : {M : Type 1} → statement M
 frame-at-spec =
     tie.close
     (tie.spec
-    length-at-requires
-    add-start
-    add-end
-    slice-aggregate-copy
-    copy-requires
-    add-byte
-    byte-requires
-    add-byte-2
-    byte-requires-2
+    length-at-requires add-start add-end (λ c. search needs) copy-requires add-byte byte-requires add-byte-2 byte-requires-2
     returns)

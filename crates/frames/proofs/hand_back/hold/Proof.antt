@@ -11,15 +11,6 @@ use Rattle.frames.proofs.Padding.{padded-front}
 use Rattle.frames.proofs.hand_back.hold.Statement.{statement}
 use Rattle.frames.proofs.hand_back.hold.Tie as tie
 
-slice-aggregate-copy : tie.Need-slice-aggregate-copy
-slice-aggregate-copy c = search needs
-
-copy-requires : tie.Need-copy-requires
-copy-requires c κs = search needs
-
-sub-t10 : tie.Need-sub-t10
-sub-t10 c = search needs
-
 returns : tie.Need-returns
 returns c =
     let o = c .before .before .before .before .before .args in
@@ -30,4 +21,4 @@ returns c =
     ap₂ {A = List ℕ} {B = ℕ} (λ h n. record { held = h; count = n }) held (sym size)
 
 pub hold-spec : {M : Type 1} → statement M
-hold-spec = tie.close (tie.spec slice-aggregate-copy copy-requires sub-t10 returns)
+hold-spec = tie.close (tie.spec (λ c. search needs) (λ c κs. search needs) (λ c. search needs) returns)

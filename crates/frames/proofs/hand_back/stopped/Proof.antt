@@ -49,9 +49,6 @@ module _ (c : tie.After-frame-at) where
         length-slice (o .args .s .from) (o .args .s .to) (all o) (omega (arith, o .pre, length-append (o .args .a .now) (o .args .b .now))),
       )
 
-sub-taken : tie.Need-sub-taken
-sub-taken c = search needs
-
 frame-at-requires : tie.Need-frame-at-requires
 frame-at-requires c κs = let o = c .before .before .before .pre in (o .ordered, (o .within, o .whole (c .if1 .taken)))
 
@@ -77,12 +74,6 @@ returns c =
     ap₂ (λ (r : Reader) (f : FinishedFrame). record { next = r; taken = taken; dropped = from; found = true; frame = f }) next (p .frame-at .ensures)
     ∙ ap (λ (b : Bool). handedBack (cond b (withFrame taken h from) (withoutFrame taken h from))) (sym (c .before .before .before .if1 .taken))
 
-hold-requires-2 : tie.Need-hold-requires-2
-hold-requires-2 c κs = search needs
-
-no-frame-requires : tie.Need-no-frame-requires
-no-frame-requires c κs = search needs
-
 returns-2 : tie.Need-returns-2
 returns-2 c =
     let start = c .before .before .before .before .before in
@@ -96,12 +87,5 @@ pub stopped-spec : {M : Type 1} → statement M
 stopped-spec =
     tie.close
     (tie.spec
-    sub-taken
-    frame-at-requires
-    add-rest
-    add-rest-2
-    hold-requires
-    returns
-    hold-requires-2
-    no-frame-requires
+    (λ c. search needs) frame-at-requires add-rest add-rest-2 hold-requires returns (λ c κs. search needs) (λ c κs. search needs)
     returns-2)

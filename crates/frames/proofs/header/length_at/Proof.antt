@@ -7,21 +7,6 @@ use Rattle.frames.specs.Frame.{number16}
 use Rattle.frames.proofs.header.length_at.Statement.{statement}
 use Rattle.frames.proofs.header.length_at.Tie as tie
 
-add-byte : tie.Need-add-byte
-add-byte c = search needs
-
-byte-requires : tie.Need-byte-requires
-byte-requires c κs = search needs
-
-add-byte-2 : tie.Need-add-byte-2
-add-byte-2 c = search needs
-
-byte-requires-2 : tie.Need-byte-requires-2
-byte-requires-2 c κs = search needs
-
-number16-requires : tie.Need-number16-requires
-number16-requires c κs = search needs
-
 returns : tie.Need-returns
 returns c =
     let o = c .before .before .before .before .before .args in
@@ -33,4 +18,5 @@ returns c =
 pub length-at-spec : {M : Type 1} → statement M
 length-at-spec =
     tie.close
-    (tie.spec add-byte byte-requires add-byte-2 byte-requires-2 number16-requires returns)
+    (tie.spec
+    (λ c. search needs) (λ c κs. search needs) (λ c. search needs) (λ c κs. search needs) (λ c κs. search needs) returns)

@@ -66,14 +66,8 @@ module _ (c : tie.Else8) where
   announced : L ≡ lengthAt s
   announced = c .before .length-at .ensures .0 ∙ length-seen (o .args .from) (o .args .to) (all o) (omega arith)
 
-sub-n : tie.Need-sub-n
-sub-n c = search needs
-
 returns : tie.Need-returns
 returns c = let o = c .before .before .before in sym (open-none (seen o) (omega (arith, size o)))
-
-byte-requires : tie.Need-byte-requires
-byte-requires c κs = search needs
 
 returns-2 : tie.Need-returns-2
 returns-2 c =
@@ -83,12 +77,6 @@ returns-2 c =
 
 returns-3 : tie.Need-returns-3
 returns-3 c = let p = c .before in let o = start2 p in sym (open-head2 (seen o) (first p) (omega (arith, size o)) (omega (arith, size o)))
-
-add-byte : tie.Need-add-byte
-add-byte c = search needs
-
-byte-requires-2 : tie.Need-byte-requires-2
-byte-requires-2 c κs = search needs
 
 returns-4 : tie.Need-returns-4
 returns-4 c =
@@ -102,12 +90,6 @@ returns-5 c =
     let p = c .before in
     let o = start4 p in
     sym (open-high (seen o) (first (p .before .before .before)) (second p) (omega (arith, size o)) (omega (arith, size o)))
-
-add-byte-2 : tie.Need-add-byte-2
-add-byte-2 c = search needs
-
-byte-requires-3 : tie.Need-byte-requires-3
-byte-requires-3 c κs = search needs
 
 returns-6 : tie.Need-returns-6
 returns-6 c =
@@ -123,9 +105,6 @@ returns-7 c =
     let o = start6 p in
     sym (open-length (seen o) (first (q .before .before .before)) (second q) (high p) (omega (arith, size o)) (omega (arith, size o)))
 
-length-at-requires : tie.Need-length-at-requires
-length-at-requires c κs = search needs
-
 returns-8 : tie.Need-returns-8
 returns-8 c =
     let p = c .before .before .before in
@@ -134,27 +113,12 @@ returns-8 c =
     let announced = c .before .length-at .ensures .0 ∙ length-seen (o .args .from) (o .args .to) (all o) (omega arith) in
     sym (dead-length (seen o) (first (q .before .before .before)) (second q) (high p) (omega (arith, size o)) (omega (arith, announced, c .if8 .taken)))
 
-add-if9 : tie.Need-add-if9
-add-if9 c = search needs
-
 returns-9 : tie.Need-returns-9
 returns-9 c =
     let e = c .before in
     let p = past e in
     let q = p .before .before .before in
     sym (open-sum (s e) (first (q .before .before .before)) (second q) (high p) (omega (arith, size (o e))) (omega (arith, announced e)) (omega (arith, announced e, size (o e))))
-
-add-last : tie.Need-add-last
-add-last c = search needs
-
-add-last-2 : tie.Need-add-last-2
-add-last-2 c = search needs
-
-byte-requires-4 : tie.Need-byte-requires-4
-byte-requires-4 c κs = search needs
-
-sum-requires : tie.Need-sum-requires
-sum-requires c κs = search needs
 
 -- where the sum byte is compared
 module _ (c : tie.After-sum) where
@@ -200,26 +164,6 @@ pub front-at-spec : {M : Type 1} → statement M
 front-at-spec =
     tie.close
     (tie.spec
-    sub-n
-    returns
-    byte-requires
-    returns-2
-    returns-3
-    add-byte
-    byte-requires-2
-    returns-4
-    returns-5
-    add-byte-2
-    byte-requires-3
-    returns-6
-    returns-7
-    length-at-requires
-    returns-8
-    add-if9
-    returns-9
-    add-last
-    add-last-2
-    byte-requires-4
-    sum-requires
-    returns-10
-    returns-11)
+    (λ c. search needs) returns (λ c κs. search needs) returns-2 returns-3 (λ c. search needs) (λ c κs. search needs) returns-4
+    returns-5 (λ c. search needs) (λ c κs. search needs) returns-6 returns-7 (λ c κs. search needs) returns-8 (λ c. search needs)
+    returns-9 (λ c. search needs) (λ c. search needs) (λ c κs. search needs) (λ c κs. search needs) returns-10 returns-11)

@@ -26,43 +26,25 @@ module _ (c : tie.Start) where
   end : to ≤ length all
   end = omega (arith, length-append (c .args .a .now) (c .args .b .now))
 
-sub-n : tie.Need-sub-n
-sub-n c = search needs
-
-sub-result : tie.Need-sub-result
-sub-result c = search needs
-
 returns : tie.Need-returns
 returns c =
     let o = c .before .before .before in
     missing-head1 (all o) (from o) (to o) (o .pre .0) (end o) (o .pre .1 .1) (c .if1 .taken)
-
-sub-result-2 : tie.Need-sub-result-2
-sub-result-2 c = search needs
 
 returns-2 : tie.Need-returns-2
 returns-2 c =
     let o = c .before .before .before .before in
     missing-head2 (all o) (from o) (to o) (o .pre .0) (end o) (o .pre .1 .1) (c .before .if1 .left) (c .if2 .taken)
 
-sub-result-3 : tie.Need-sub-result-3
-sub-result-3 c = search needs
-
 returns-3 : tie.Need-returns-3
 returns-3 c =
     let o = c .before .before .before .before .before in
     missing-high (all o) (from o) (to o) (o .pre .0) (end o) (o .pre .1 .1) (c .before .if2 .left) (c .if3 .taken)
 
-sub-result-4 : tie.Need-sub-result-4
-sub-result-4 c = search needs
-
 returns-4 : tie.Need-returns-4
 returns-4 c =
     let o = c .before .before .before .before .before .before in
     missing-length (all o) (from o) (to o) (o .pre .0) (end o) (o .pre .1 .1) (c .before .if3 .left) (c .if4 .taken)
-
-length-at-requires : tie.Need-length-at-requires
-length-at-requires c κs = search needs
 
 -- L as the code reads it
 module _ (c : tie.After-length-at) where
@@ -74,9 +56,6 @@ module _ (c : tie.After-length-at) where
 
   read : c .length-at .result ≡ lengthAt (slice (from o) (to o) (all o))
   read = c .length-at .ensures .0 ∙ length-seen (from o) (to o) (all o) (omega arith)
-
-add-result : tie.Need-add-result
-add-result c = search needs
 
 sub-result-5 : tie.Need-sub-result-5
 sub-result-5 c =
@@ -93,16 +72,5 @@ pub missing-spec : {M : Type 1} → statement M
 missing-spec =
     tie.close
     (tie.spec
-    sub-n
-    sub-result
-    returns
-    sub-result-2
-    returns-2
-    sub-result-3
-    returns-3
-    sub-result-4
-    returns-4
-    length-at-requires
-    add-result
-    sub-result-5
-    returns-5)
+    (λ c. search needs) (λ c. search needs) returns (λ c. search needs) returns-2 (λ c. search needs) returns-3
+    (λ c. search needs) returns-4 (λ c κs. search needs) (λ c. search needs) sub-result-5 returns-5)

@@ -6,12 +6,6 @@ use Rattle.frames.proofs.Slices.{getD-right}
 use Rattle.frames.proofs.parts.byte.Statement.{statement}
 use Rattle.frames.proofs.parts.byte.Tie as tie
 
-shared-slice-read-result : tie.Need-shared-slice-read-result
-shared-slice-read-result c = search needs
-
-shared-slice-read-result-2 : tie.Need-shared-slice-read-result-2
-shared-slice-read-result-2 c = search needs
-
 returns : tie.Need-returns
 returns c =
     let o = c .before .before .args in
@@ -23,5 +17,4 @@ returns-2 c =
     sym (getD-right (o .a .now) (o .b .now) (o .i) (c .before .if1 .left))
 
 pub byte-spec : {M : Type 1} → statement M
-byte-spec =
-    tie.close (tie.spec shared-slice-read-result shared-slice-read-result-2 returns returns-2)
+byte-spec = tie.close (tie.spec (λ c. search needs) (λ c. search needs) returns returns-2)

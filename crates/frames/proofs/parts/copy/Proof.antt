@@ -30,9 +30,6 @@ module _ (c : tie.Start) where
       ∙ sym (ap length parts)
       ∙ length-slice (c .args .from) (c .args .to) (c .args .a .now ++ c .args .b .now) (omega (arith, length-append (c .args .a .now) (c .args .b .now)))
 
-first-part-requires : tie.Need-first-part-requires
-first-part-requires c κs = search needs
-
 copy-requires : tie.Need-copy-requires
 copy-requires c κs = omega (arith, size (c .before .before .before .before .before), ap length (c .before .first-part .ensures))
 
@@ -69,17 +66,11 @@ module _ (c : tie.After-second-part) where
   before-second : k ≤ length room
   before-second = omega (arith, k-is, room-size, size start)
 
-second-part-requires : tie.Need-second-part-requires
-second-part-requires c κs = search needs
-
 sub-copy : tie.Need-sub-copy
 sub-copy c = before-second c
 
 part-copy-start : tie.Need-part-copy-start
 part-copy-start c = before-second c
-
-part-copy-end : tie.Need-part-copy-end
-part-copy-end c = search needs
 
 copy-requires-2 : tie.Need-copy-requires-2
 copy-requires-2 c κs =
@@ -93,9 +84,6 @@ copy-requires-2 c κs =
       length-drop (k p) (room p),
       length-take-le (length (room p) - k p) (drop (k p) (room p)) (omega (arith, length-drop (k p) (room p))),
     )
-
-same-length : tie.Need-same-length
-same-length c = search needs
 
 returns : tie.Need-returns
 returns c =
@@ -113,12 +101,5 @@ pub copy-spec : {M : Type 1} → statement M
 copy-spec =
     tie.close
     (tie.spec
-    first-part-requires
-    copy-requires
-    second-part-requires
-    sub-copy
-    part-copy-start
-    part-copy-end
-    copy-requires-2
-    same-length
-    returns)
+    (λ c κs. search needs) copy-requires (λ c κs. search needs) sub-copy part-copy-start (λ c. search needs) copy-requires-2
+    (λ c. search needs) returns)

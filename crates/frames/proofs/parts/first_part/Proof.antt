@@ -7,21 +7,6 @@ use Rattle.frames.proofs.Slices.{slice-clipped}
 use Rattle.frames.proofs.parts.first_part.Statement.{statement}
 use Rattle.frames.proofs.parts.first_part.Tie as tie
 
-clip-requires : tie.Need-clip-requires
-clip-requires c κs = search needs
-
-clip-requires-2 : tie.Need-clip-requires-2
-clip-requires-2 c κs = search needs
-
-sub-result : tie.Need-sub-result
-sub-result c = search needs
-
-part-result-start : tie.Need-part-result-start
-part-result-start c = search needs
-
-part-result-end : tie.Need-part-result-end
-part-result-end c = search needs
-
 returns : tie.Need-returns
 returns c =
     let o = c .before .before .before .before .args in
@@ -30,4 +15,5 @@ returns c =
 pub first-part-spec : {M : Type 1} → statement M
 first-part-spec =
     tie.close
-    (tie.spec clip-requires clip-requires-2 sub-result part-result-start part-result-end returns)
+    (tie.spec
+    (λ c κs. search needs) (λ c κs. search needs) (λ c. search needs) (λ c. search needs) (λ c. search needs) returns)

@@ -7,27 +7,6 @@ use Rattle.frames.proofs.Slices.{slice-cut, past-smaller}
 use Rattle.frames.proofs.parts.second_part.Statement.{statement}
 use Rattle.frames.proofs.parts.second_part.Tie as tie
 
-clip-requires : tie.Need-clip-requires
-clip-requires c κs = search needs
-
-sub-start : tie.Need-sub-start
-sub-start c = search needs
-
-clip-requires-2 : tie.Need-clip-requires-2
-clip-requires-2 c κs = search needs
-
-sub-end : tie.Need-sub-end
-sub-end c = search needs
-
-sub-result : tie.Need-sub-result
-sub-result c = search needs
-
-part-result-start : tie.Need-part-result-start
-part-result-start c = search needs
-
-part-result-end : tie.Need-part-result-end
-part-result-end c = search needs
-
 returns : tie.Need-returns
 returns c =
     let o = c .before .before .before .before .args in
@@ -39,11 +18,5 @@ pub second-part-spec : {M : Type 1} → statement M
 second-part-spec =
     tie.close
     (tie.spec
-    clip-requires
-    sub-start
-    clip-requires-2
-    sub-end
-    sub-result
-    part-result-start
-    part-result-end
-    returns)
+    (λ c κs. search needs) (λ c. search needs) (λ c κs. search needs) (λ c. search needs) (λ c. search needs) (λ c. search needs)
+    (λ c. search needs) returns)

@@ -10,21 +10,6 @@ use Rattle.frames.proofs.Sums.{sum-append}
 use Rattle.frames.proofs.parts.sum.Statement.{statement}
 use Rattle.frames.proofs.parts.sum.Tie as tie
 
-first-part-requires : tie.Need-first-part-requires
-first-part-requires c κs = search needs
-
-sum-requires : tie.Need-sum-requires
-sum-requires c κs = search needs
-
-second-part-requires : tie.Need-second-part-requires
-second-part-requires c κs = search needs
-
-sum-requires-2 : tie.Need-sum-requires-2
-sum-requires-2 c κs = search needs
-
-wrapping-add-u8-requires : tie.Need-wrapping-add-u8-requires
-wrapping-add-u8-requires c κs = search needs
-
 returns : tie.Need-returns
 returns c =
     let o = c .before .before .before .before .before .before .before .args in
@@ -39,9 +24,4 @@ pub sum-spec : {M : Type 1} → statement M
 sum-spec =
     tie.close
     (tie.spec
-    first-part-requires
-    sum-requires
-    second-part-requires
-    sum-requires-2
-    wrapping-add-u8-requires
-    returns)
+    (λ c κs. search needs) (λ c κs. search needs) (λ c κs. search needs) (λ c κs. search needs) (λ c κs. search needs) returns)

@@ -18,11 +18,8 @@ slice-aggregate-a c = sym (size (c .before))
 feeding-requires : tie.Need-feeding-requires
 feeding-requires c κs = omega (arith, size (c .before))
 
-stopped-requires : tie.Need-stopped-requires
-stopped-requires c κs = search needs
-
 returns : tie.Need-returns
 returns c = c .stopped .ensures ∙ ap handedBack (sym (c .before .feeding .ensures .is))
 
 pub feed-held-spec : {M : Type 1} → statement M
-feed-held-spec = tie.close (tie.spec slice-aggregate-a feeding-requires stopped-requires returns)
+feed-held-spec = tie.close (tie.spec slice-aggregate-a feeding-requires (λ c κs. search needs) returns)

@@ -18,21 +18,8 @@ slice-aggregate-a c = sym (size (c .before))
 quiet-requires : tie.Need-quiet-requires
 quiet-requires c κs = omega (arith, size (c .before))
 
-slice-aggregate-stopped : tie.Need-slice-aggregate-stopped
-slice-aggregate-stopped c = search needs
-
-stopped-requires : tie.Need-stopped-requires
-stopped-requires c κs = search needs
-
 returns : tie.Need-returns
 returns c = c .stopped .ensures ∙ ap handedBack (sym (c .before .before .quiet .ensures .is))
 
 pub quiet-held-spec : {M : Type 1} → statement M
-quiet-held-spec =
-    tie.close
-    (tie.spec
-    slice-aggregate-a
-    quiet-requires
-    slice-aggregate-stopped
-    stopped-requires
-    returns)
+quiet-held-spec = tie.close (tie.spec slice-aggregate-a quiet-requires (λ c. search needs) (λ c κs. search needs) returns)

@@ -51,12 +51,6 @@ loop-holds c =
     let o = c .before .before .args in
     (omega arith, (omega arith, (omega arith, (omega arith, feeding-start (o .a .now) (o .b .now)))))
 
-front-at-requires : tie.Need-front-at-requires Inv-loop μ-loop
-front-at-requires c κs = search needs
-
-enum-told : tie.Need-enum-told Inv-loop μ-loop
-enum-told c = search needs
-
 returns : tie.Need-returns Inv-loop μ-loop
 returns c =
     let p = c .before .before in
@@ -65,9 +59,6 @@ returns c =
       stop = record { ordered = omega arith; within = omega arith; taken = omega arith; small = omega arith; whole = λ _. whole };
       is = goes-on p ∙ feeding-whole-at (a p ++ b p) (length (a p)) (from p) (to p) whole;
     }
-
-enum-told-2 : tie.Need-enum-told-2 Inv-loop μ-loop
-enum-told-2 c = search needs
 
 add-next-head-of : tie.Need-add-next-head-of Inv-loop μ-loop
 add-next-head-of c = omega arith
@@ -85,9 +76,6 @@ module _ (c : tie.After-enum-told2 Inv-loop μ-loop) where
 
 next-head-of-requires : tie.Need-next-head-of-requires Inv-loop μ-loop
 next-head-of-requires c κs = omega (arith, loses c)
-
-larger-requires : tie.Need-larger-requires Inv-loop μ-loop
-larger-requires c κs = search needs
 
 loop-less : tie.Need-loop-less Inv-loop μ-loop
 loop-less c =
@@ -110,9 +98,6 @@ loop-again c =
     ∙ ap (feedingAt v n (at .result)) (sym (c .larger .ensures)) in
     (omega arith, (omega arith, (omega arith, (omega arith, goes-on p ∙ on))))
 
-enum-told-3 : tie.Need-enum-told-3 Inv-loop μ-loop
-enum-told-3 c = search needs
-
 returns-2 : tie.Need-returns-2 Inv-loop μ-loop
 returns-2 c =
     let p = c .before .before .before in
@@ -133,9 +118,6 @@ missing-requires c κs =
 
 sub-clip : tie.Need-sub-clip Inv-loop μ-loop
 sub-clip c = omega arith
-
-clip-requires : tie.Need-clip-requires Inv-loop μ-loop
-clip-requires c κs = search needs
 
 -- where the bytes up to the next test are taken, as far as they are there
 module _ (c : tie.After-clip Inv-loop μ-loop) where
@@ -174,24 +156,6 @@ pub feeding-spec : {M : Type 1} → statement M
 feeding-spec =
     tie.close
     (tie.spec
-    Inv-loop
-    μ-loop
-    add-all
-    loop-holds
-    front-at-requires
-    enum-told
-    returns
-    enum-told-2
-    add-next-head-of
-    next-head-of-requires
-    larger-requires
-    loop-less
-    loop-again
-    enum-told-3
-    returns-2
-    missing-requires
-    sub-clip
-    clip-requires
-    add-to
-    loop-less-2
-    loop-again-2)
+    Inv-loop μ-loop add-all loop-holds (λ c κs. search needs) (λ c. search needs) returns (λ c. search needs) add-next-head-of
+    next-head-of-requires (λ c κs. search needs) loop-less loop-again (λ c. search needs) returns-2 missing-requires sub-clip
+    (λ c κs. search needs) add-to loop-less-2 loop-again-2)

@@ -44,14 +44,8 @@ module _ (c : tie.After-front-at Inv-loop μ-loop) where
   drops : (f : Front) (r : ℕ) → c .front-at .result ≡ f → isWhole f ≡ false → Headless a (at + 1) (length a) r → quietCall a 0 ≡ quietCall (drop r a) r
   drops f r e w h = goes-on ∙ quiet-drops-at a at (omega arith) (ap isWhole (judged f e) ∙ w) ∙ quiet-headless-at a (at + 1) r h
 
-slice-aggregate-front-at : tie.Need-slice-aggregate-front-at Inv-loop μ-loop
-slice-aggregate-front-at c = search needs
-
 front-at-requires : tie.Need-front-at-requires Inv-loop μ-loop
 front-at-requires c κs = omega arith
-
-enum-told : tie.Need-enum-told Inv-loop μ-loop
-enum-told c = search needs
 
 returns : tie.Need-returns Inv-loop μ-loop
 returns c =
@@ -69,15 +63,6 @@ returns c =
       is = goes-on p ∙ quiet-whole (drop (at p) (a p)) (at p) whole ∙ quiet-end-at (a p) (at p) withFrame;
     }
 
-enum-told-2 : tie.Need-enum-told-2 Inv-loop μ-loop
-enum-told-2 c = search needs
-
-add-next-head : tie.Need-add-next-head Inv-loop μ-loop
-add-next-head c = search needs
-
-next-head-requires : tie.Need-next-head-requires Inv-loop μ-loop
-next-head-requires c κs = search needs
-
 loop-less : tie.Need-loop-less Inv-loop μ-loop
 loop-less c = let o = c .next-head .ensures .ordered in omega arith
 
@@ -86,15 +71,6 @@ loop-again c =
     let h = c .next-head in
     let e = c .before in
     (h .ensures .within, (refl, drops (e .before .before) _ (h .result) (e .enum-told2 .given .1) refl (h .ensures)))
-
-enum-told-3 : tie.Need-enum-told-3 Inv-loop μ-loop
-enum-told-3 c = search needs
-
-add-next-head-2 : tie.Need-add-next-head-2 Inv-loop μ-loop
-add-next-head-2 c = search needs
-
-next-head-requires-2 : tie.Need-next-head-requires-2 Inv-loop μ-loop
-next-head-requires-2 c κs = search needs
 
 loop-less-2 : tie.Need-loop-less-2 Inv-loop μ-loop
 loop-less-2 c = let o = c .next-head2 .ensures .ordered in omega arith
@@ -125,21 +101,6 @@ pub quiet-spec : {M : Type 1} → statement M
 quiet-spec =
     tie.close
     (tie.spec
-    Inv-loop
-    μ-loop
-    loop-holds
-    slice-aggregate-front-at
-    front-at-requires
-    enum-told
-    returns
-    enum-told-2
-    add-next-head
-    next-head-requires
-    loop-less
-    loop-again
-    enum-told-3
-    add-next-head-2
-    next-head-requires-2
-    loop-less-2
-    loop-again-2
-    returns-2)
+    Inv-loop μ-loop loop-holds (λ c. search needs) front-at-requires (λ c. search needs) returns (λ c. search needs)
+    (λ c. search needs) (λ c κs. search needs) loop-less loop-again (λ c. search needs) (λ c. search needs) (λ c κs. search needs)
+    loop-less-2 loop-again-2 returns-2)

@@ -8,11 +8,8 @@ use Rattle.frames.specs.Frame.{head1, head2}
 use Rattle.frames.proofs.search.head.Statement.{statement}
 use Rattle.frames.proofs.search.head.Tie as tie
 
-returns : tie.Need-returns
-returns c = search needs
-
 returns-2 : tie.Need-returns-2
 returns-2 c = (omega arith, λ _ e f. c .if1 .left (ap₂ (λ (x y : ℕ). bitOr (bitXor x head1) (bitXor y head2)) e f))
 
 pub head-spec : {M : Type 1} → statement M
-head-spec = tie.close (tie.spec returns returns-2)
+head-spec = tie.close (tie.spec (λ c. search needs) returns-2)

@@ -7,23 +7,8 @@ use borrow.Author.Needs.{needs}
 use Rattle.frames.proofs.search.head_at.Statement.{statement}
 use Rattle.frames.proofs.search.head_at.Tie as tie
 
-shared-slice-read-if1 : tie.Need-shared-slice-read-if1
-shared-slice-read-if1 c = search needs
-
-returns : tie.Need-returns
-returns c = search needs
-
-sub-if2 : tie.Need-sub-if2
-sub-if2 c = search needs
-
 returns-2 : tie.Need-returns-2
 returns-2 c = λ e. absurd (false≢true (sym e))
-
-add-result : tie.Need-add-result
-add-result c = search needs
-
-shared-slice-read-result : tie.Need-shared-slice-read-result
-shared-slice-read-result c = search needs
 
 returns-3 : tie.Need-returns-3
 returns-3 c = λ r e. (omega arith, λ f. eqb-false _ _ r f)
@@ -32,10 +17,4 @@ pub head-at-spec : {M : Type 1} → statement M
 head-at-spec =
     tie.close
     (tie.spec
-    shared-slice-read-if1
-    returns
-    sub-if2
-    returns-2
-    add-result
-    shared-slice-read-result
-    returns-3)
+    (λ c. search needs) (λ c. search needs) (λ c. search needs) returns-2 (λ c. search needs) (λ c. search needs) returns-3)

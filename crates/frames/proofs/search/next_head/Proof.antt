@@ -16,29 +16,8 @@ module _ (c : tie.After-first-head) where
       let o = start .args in
       headless-farther (o .s .now) (o .from) (c .before .clip .result) (o .to) (c .first-head .result) (omega arith) (c .first-head .ensures)
 
-add-clip : tie.Need-add-clip
-add-clip c = search needs
-
-clip-requires : tie.Need-clip-requires
-clip-requires c κs = search needs
-
-first-head-requires : tie.Need-first-head-requires
-first-head-requires c κs = search needs
-
-add-if1 : tie.Need-add-if1
-add-if1 c = search needs
-
-add-if1-2 : tie.Need-add-if1-2
-add-if1-2 c = search needs
-
 returns : tie.Need-returns
 returns c = near (c .before)
-
-past-blocks-requires : tie.Need-past-blocks-requires
-past-blocks-requires c κs = search needs
-
-first-head-requires-2 : tie.Need-first-head-requires-2
-first-head-requires-2 c κs = search needs
 
 returns-2 : tie.Need-returns-2
 returns-2 c =
@@ -53,12 +32,5 @@ pub next-head-spec : {M : Type 1} → statement M
 next-head-spec =
     tie.close
     (tie.spec
-    add-clip
-    clip-requires
-    first-head-requires
-    add-if1
-    add-if1-2
-    returns
-    past-blocks-requires
-    first-head-requires-2
-    returns-2)
+    (λ c. search needs) (λ c κs. search needs) (λ c κs. search needs) (λ c. search needs) (λ c. search needs) returns
+    (λ c κs. search needs) (λ c κs. search needs) returns-2)

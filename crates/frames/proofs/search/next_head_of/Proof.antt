@@ -4,19 +4,10 @@ use Rattle.frames.proofs.Stretches.{headless-first, headless-second}
 use Rattle.frames.proofs.search.next_head_of.Statement.{statement}
 use Rattle.frames.proofs.search.next_head_of.Tie as tie
 
-next-head-requires : tie.Need-next-head-requires
-next-head-requires c κs = search needs
-
 returns : tie.Need-returns
 returns c =
     let o = c .before .before .before .before .args in
     headless-first (o .a .now) (o .b .now) (o .from) (c .next-head .result) (c .next-head .ensures)
-
-next-head-requires-2 : tie.Need-next-head-requires-2
-next-head-requires-2 c κs = search needs
-
-add-result : tie.Need-add-result
-add-result c = search needs
 
 returns-2 : tie.Need-returns-2
 returns-2 c =
@@ -24,5 +15,4 @@ returns-2 c =
     headless-second (o .a .now) (o .b .now) (o .from) (c .next-head2 .result) (c .before .if1 .left) (c .next-head2 .ensures)
 
 pub next-head-of-spec : {M : Type 1} → statement M
-next-head-of-spec =
-    tie.close (tie.spec next-head-requires returns next-head-requires-2 add-result returns-2)
+next-head-of-spec = tie.close (tie.spec (λ c κs. search needs) returns (λ c κs. search needs) (λ c. search needs) returns-2)

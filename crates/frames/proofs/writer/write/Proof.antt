@@ -52,9 +52,6 @@ returns c =
     let e = unwritable-long (frame (c .before .before .before)) (room (c .before .before .before)) (c .if1 .taken) in
     record { gives = rw e; leaves = rw e }
 
-add-size : tie.Need-add-size
-add-size c = search needs
-
 returns-2 : tie.Need-returns-2
 unfolding writtenSize writtenRoom
 returns-2 c =
@@ -62,37 +59,10 @@ returns-2 c =
     let e = unwritable-narrow (frame o) (room o) (omega arith) (omega arith) in
     record { gives = rw e; leaves = rw e }
 
-write-requires : tie.Need-write-requires
-write-requires c κs = search needs
-
-add-last : tie.Need-add-last
-add-last c = search needs
-
-sub-copy : tie.Need-sub-copy
-sub-copy c = search needs
-
-part-copy-start : tie.Need-part-copy-start
-part-copy-start c = search needs
-
-part-copy-end : tie.Need-part-copy-end
-part-copy-end c = search needs
-
-copy-requires : tie.Need-copy-requires
-copy-requires c κs = search needs
-
-slice-reshare-prefix-sum : tie.Need-slice-reshare-prefix-sum
-slice-reshare-prefix-sum c = search needs
-
 slice-aggregate-sum : tie.Need-slice-aggregate-sum
 slice-aggregate-sum c =
     let p = c .before .before .before in
     sym (length-take-le (6 + n p) (filled p) (omega (arith, same-size (f p) (room (start p)) (fits p) (filled p) (filled-is p), fits p)))
-
-sum-requires : tie.Need-sum-requires
-sum-requires c κs = search needs
-
-slice-write-room : tie.Need-slice-write-room
-slice-write-room c = search needs
 
 same-length : tie.Need-same-length
 same-length c =
@@ -114,18 +84,6 @@ pub write-spec : {M : Type 1} → statement M
 write-spec =
     tie.close
     (tie.spec
-    returns
-    add-size
-    returns-2
-    write-requires
-    add-last
-    sub-copy
-    part-copy-start
-    part-copy-end
-    copy-requires
-    slice-reshare-prefix-sum
-    slice-aggregate-sum
-    sum-requires
-    slice-write-room
-    same-length
-    returns-3)
+    returns (λ c. search needs) returns-2 (λ c κs. search needs) (λ c. search needs) (λ c. search needs) (λ c. search needs)
+    (λ c. search needs) (λ c κs. search needs) (λ c. search needs) slice-aggregate-sum (λ c κs. search needs) (λ c. search needs)
+    same-length returns-3)

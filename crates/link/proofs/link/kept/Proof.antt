@@ -9,27 +9,6 @@ use Rattle.link.proofs.Memories.{copied}
 use Rattle.link.proofs.link.kept.Statement.{statement}
 use Rattle.link.proofs.link.kept.Tie as tie
 
-mul-from : tie.Need-mul-from
-mul-from c = search needs
-
-add-end : tie.Need-add-end
-add-end c = search needs
-
-sub-copy : tie.Need-sub-copy
-sub-copy c = search needs
-
-part-copy-start : tie.Need-part-copy-start
-part-copy-start c = search needs
-
-part-copy-end : tie.Need-part-copy-end
-part-copy-end c = search needs
-
-slice-aggregate-copy : tie.Need-slice-aggregate-copy
-slice-aggregate-copy c = search needs
-
-copy-requires : tie.Need-copy-requires
-copy-requires c κs = search needs
-
 returns : tie.Need-returns
 returns c =
     let a = c .before .before .before .before .before .args in
@@ -41,11 +20,5 @@ pub kept-spec : {M : Type 1} → statement M
 kept-spec =
     tie.close
     (tie.spec
-    mul-from
-    add-end
-    sub-copy
-    part-copy-start
-    part-copy-end
-    slice-aggregate-copy
-    copy-requires
-    returns)
+    (λ c. search needs) (λ c. search needs) (λ c. search needs) (λ c. search needs) (λ c. search needs) (λ c. search needs)
+    (λ c κs. search needs) returns)

@@ -9,9 +9,6 @@ use Rattle.replay.specs.Texts.{textOf, FrameText}
 use Rattle.replay.proofs.run.line_at.Statement.{statement}
 use Rattle.replay.proofs.run.line_at.Tie as tie
 
-front-requires : tie.Need-front-requires
-front-requires c κs = search needs
-
 frame-requires : tie.Need-frame-requires
 frame-requires c κs =
     let a = c .before .before .args in
@@ -23,4 +20,4 @@ returns c =
     subst (λ (s : List ℕ). FrameText (a .place) (a .command) (a .outcome) s (textOf (c .frame .result))) (c .before .front .ensures) (c .frame .ensures)
 
 pub line-at-spec : {M : Type 1} → statement M
-line-at-spec = tie.close (tie.spec front-requires frame-requires returns)
+line-at-spec = tie.close (tie.spec (λ c κs. search needs) frame-requires returns)

@@ -7,11 +7,8 @@ use Rattle.replay.proofs.run.line_waits.Tie as tie
 returns : tie.Need-returns
 returns c = simp (eq-eqb _ _ (c .if1 .taken))
 
-is-checking-requires : tie.Need-is-checking-requires
-is-checking-requires c κs = search needs
-
 returns-2 : tie.Need-returns-2
 returns-2 c = simp (ne-eqb _ _ (c .before .before .if1 .left), c .is-checking .ensures)
 
 pub line-waits-spec : {M : Type 1} → statement M
-line-waits-spec = tie.close (tie.spec returns is-checking-requires returns-2)
+line-waits-spec = tie.close (tie.spec returns (λ c κs. search needs) returns-2)

@@ -15,9 +15,6 @@ returns c = simp (lt-ltb _ _ (c .if1 .taken))
 slice-aggregate-checksum : tie.Need-slice-aggregate-checksum
 slice-aggregate-checksum c = sym (length-take-le (c .before .before .before .args .r .stored) (c .before .before .before .args .image .now) (omega arith))
 
-checksum-requires : tie.Need-checksum-requires
-checksum-requires c κs = search needs
-
 returns-2 : tie.Need-returns-2
 unfolding resumeAt
 returns-2 c = simp (le-ltb _ _ (c .before .before .before .if1 .left), ← c .before .checksum .ensures, eq-eqb _ _ (c .if2 .taken))
@@ -27,5 +24,4 @@ unfolding resumeAt
 returns-3 c = simp (le-ltb _ _ (c .before .before .before .if1 .left), ← c .before .checksum .ensures, ne-eqb _ _ (c .if2 .left))
 
 pub resume-at-spec : {M : Type 1} → statement M
-resume-at-spec =
-    tie.close (tie.spec returns slice-aggregate-checksum checksum-requires returns-2 returns-3)
+resume-at-spec = tie.close (tie.spec returns slice-aggregate-checksum (λ c κs. search needs) returns-2 returns-3)

@@ -9,22 +9,10 @@ use Rattle.sender.proofs.Packets.{past, rest}
 use Rattle.sender.proofs.request.part.Statement.{statement}
 use Rattle.sender.proofs.request.part.Tie as tie
 
-slice-aggregate-result : tie.Need-slice-aggregate-result
-slice-aggregate-result c = search needs
-
 returns : tie.Need-returns
 returns c =
     let a = c .before .before .args in
     sym (past (a .s .now) (a .from) (a .n) (omega arith))
-
-sub-rest : tie.Need-sub-rest
-sub-rest c = search needs
-
-part-rest-start : tie.Need-part-rest-start
-part-rest-start c = search needs
-
-part-rest-end : tie.Need-part-rest-end
-part-rest-end c = search needs
 
 returns-2 : tie.Need-returns-2
 returns-2 c =
@@ -46,11 +34,5 @@ pub part-spec : {M : Type 1} → statement M
 part-spec =
     tie.close
     (tie.spec
-    slice-aggregate-result
-    returns
-    sub-rest
-    part-rest-start
-    part-rest-end
-    returns-2
-    slice-aggregate-result-2
+    (λ c. search needs) returns (λ c. search needs) (λ c. search needs) (λ c. search needs) returns-2 slice-aggregate-result-2
     returns-3)

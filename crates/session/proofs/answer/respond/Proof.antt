@@ -10,26 +10,11 @@ use Rattle.session.specs.Answering.{stepOf, areaOf}
 use Rattle.session.proofs.answer.respond.Statement.{statement}
 use Rattle.session.proofs.answer.respond.Tie as tie
 
-fa-requires : tie.Need-fa-requires
-fa-requires c κs = search needs
-
-fa-requires-2 : tie.Need-fa-requires-2
-fa-requires-2 c κs = search needs
-
 returns : tie.Need-returns
 unfolding stepOf areaOf
 returns c =
     let is = c .before .before .before .if1 .taken in
     (simp (is, c .before .fa .ensures, c .fa2 .ensures), simp is)
-
-fb-requires : tie.Need-fb-requires
-fb-requires c κs = search needs
-
-fb-requires-2 : tie.Need-fb-requires-2
-fb-requires-2 c κs = search needs
-
-same-length : tie.Need-same-length
-same-length c = search needs
 
 returns-2 : tie.Need-returns-2
 unfolding stepOf areaOf
@@ -37,29 +22,11 @@ returns-2 c =
     let is = c .before .before .before .before .if2 .taken in
     (simp (is, c .before .before .fb .ensures, c .fb2 .ensures), simp is)
 
-fc-requires : tie.Need-fc-requires
-fc-requires c κs = search needs
-
-fc-requires-2 : tie.Need-fc-requires-2
-fc-requires-2 c κs = search needs
-
 returns-3 : tie.Need-returns-3
 unfolding stepOf areaOf
 returns-3 c =
     let is = c .before .before .before .if3 .taken in
     (simp (is, c .before .fc .ensures, c .fc2 .ensures), simp is)
-
-fd-requires : tie.Need-fd-requires
-fd-requires c κs = search needs
-
-packet-requires : tie.Need-packet-requires
-packet-requires c κs = search needs
-
-fd-requires-2 : tie.Need-fd-requires-2
-fd-requires-2 c κs = search needs
-
-same-length-2 : tie.Need-same-length-2
-same-length-2 c = search needs
 
 returns-4 : tie.Need-returns-4
 unfolding stepOf areaOf
@@ -71,12 +38,6 @@ returns-4 c =
       rw is (c .before .before .fd2 .ensures .0 ∙ ap₂ (λ (r : RequestFD) (p : List ℕ). answerFD (a .t) r p (a .area .now)) fields packet),
       rw (eq-eqb _ _ is) (c .before .before .fd2 .ensures .1 ∙ ap₂ (λ (r : RequestFD) (p : List ℕ). areaFD (a .t) r p (a .area .now)) fields packet),
     )
-
-channel-requires : tie.Need-channel-requires
-channel-requires c κs = search needs
-
-fe-requires : tie.Need-fe-requires
-fe-requires c κs = search needs
 
 returns-5 : tie.Need-returns-5
 unfolding stepOf areaOf
@@ -97,21 +58,6 @@ pub respond-spec : {M : Type 1} → statement M
 respond-spec =
     tie.close
     (tie.spec
-    fa-requires
-    fa-requires-2
-    returns
-    fb-requires
-    fb-requires-2
-    same-length
-    returns-2
-    fc-requires
-    fc-requires-2
-    returns-3
-    fd-requires
-    packet-requires
-    fd-requires-2
-    same-length-2
-    returns-4
-    channel-requires
-    fe-requires
-    returns-5)
+    (λ c κs. search needs) (λ c κs. search needs) returns (λ c κs. search needs) (λ c κs. search needs) (λ c. search needs)
+    returns-2 (λ c κs. search needs) (λ c κs. search needs) returns-3 (λ c κs. search needs) (λ c κs. search needs)
+    (λ c κs. search needs) (λ c. search needs) returns-4 (λ c κs. search needs) (λ c κs. search needs) returns-5)

@@ -4,26 +4,14 @@ use borrow.Author.Tests.{lt-ltb, le-ltb}
 use Rattle.session.proofs.lawful.bad_session_fields.Statement.{statement}
 use Rattle.session.proofs.lawful.bad_session_fields.Tie as tie
 
-is-idle-requires : tie.Need-is-idle-requires
-is-idle-requires c κs = search needs
-
 returns : tie.Need-returns
 returns c = simp (← c .before .is-idle .ensures, c .if1 .taken)
-
-place-of-requires : tie.Need-place-of-requires
-place-of-requires c κs = search needs
 
 returns-2 : tie.Need-returns-2
 returns-2 c = simp (← c .before .before .before .is-idle .ensures, c .before .before .if1 .left, ← c .before .place-of .ensures .0, le-ltb _ _ (c .if2 .taken))
 
-bad-size-requires : tie.Need-bad-size-requires
-bad-size-requires c κs = search needs
-
 returns-3 : tie.Need-returns-3
 returns-3 c = simp (← c .before .before .before .before .before .is-idle .ensures, c .before .before .before .before .if1 .left, ← c .before .before .before .place-of .ensures .0, lt-ltb _ _ (c .before .before .if2 .left), ← c .before .bad-size .ensures, c .if3 .taken)
-
-has-image-requires : tie.Need-has-image-requires
-has-image-requires c κs = search needs
 
 returns-4 : tie.Need-returns-4
 returns-4 c = simp (← c .before .before .before .before .before .before .before .before .is-idle .ensures, c .before .before .before .before .before .before .before .if1 .left, ← c .before .before .before .before .before .before .place-of .ensures .0, lt-ltb _ _ (c .before .before .before .before .before .if2 .left), ← c .before .before .before .before .bad-size .ensures, c .before .before .before .if3 .left, ← c .before .before .has-image .ensures, c .before .if4 .taken)
@@ -35,12 +23,5 @@ pub bad-session-fields-spec : {M : Type 1} → statement M
 bad-session-fields-spec =
     tie.close
     (tie.spec
-    is-idle-requires
-    returns
-    place-of-requires
-    returns-2
-    bad-size-requires
-    returns-3
-    has-image-requires
-    returns-4
-    returns-5)
+    (λ c κs. search needs) returns (λ c κs. search needs) returns-2 (λ c κs. search needs) returns-3 (λ c κs. search needs)
+    returns-4 returns-5)

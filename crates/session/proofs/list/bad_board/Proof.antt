@@ -4,25 +4,14 @@ use borrow.Author.Tests.{lt-ltb, le-ltb}
 use Rattle.session.proofs.list.bad_board.Statement.{statement}
 use Rattle.session.proofs.list.bad_board.Tie as tie
 
-mul-channel : tie.Need-mul-channel
-mul-channel c = search needs
-
-element-copy-out-channel : tie.Need-element-copy-out-channel
-element-copy-out-channel c = search needs
-
 returns : tie.Need-returns
 returns c = simp (lt-ltb _ _ (c .if1 .taken))
 
 returns-2 : tie.Need-returns-2
 returns-2 c = simp (le-ltb _ _ (c .before .if1 .left), lt-ltb _ _ (c .if2 .taken))
 
-place-of-requires : tie.Need-place-of-requires
-place-of-requires c κs = search needs
-
 returns-3 : tie.Need-returns-3
 returns-3 c = simp (le-ltb _ _ (c .before .before .if1 .left), le-ltb _ _ (c .before .if2 .left), c .place-of .ensures .0)
 
 pub bad-board-spec : {M : Type 1} → statement M
-bad-board-spec =
-    tie.close
-    (tie.spec mul-channel element-copy-out-channel returns returns-2 place-of-requires returns-3)
+bad-board-spec = tie.close (tie.spec (λ c. search needs) (λ c. search needs) returns returns-2 (λ c κs. search needs) returns-3)

@@ -26,9 +26,6 @@ returns-2 c = simp (le-ltb _ _ (c .before .if1 .left), lt-ltb _ _ (c .if2 .taken
 loop-holds : tie.Need-loop-holds Inv-loop μ-loop
 loop-holds c = (search needs, find-start (badBoard (c .before .before .args .boards)) (c .before .before .args .count))
 
-bad-board-requires : tie.Need-bad-board-requires Inv-loop μ-loop
-bad-board-requires c κs = search needs
-
 returns-3 : tie.Need-returns-3 Inv-loop μ-loop
 unfolding badList
 returns-3 c =
@@ -36,12 +33,6 @@ returns-3 c =
     let l = c .before .before .before .loop in
     let found = find-yes (badBoard (a .boards)) (a .count) (l .i) (l .inv .1) (c .before .before .loop-test .taken) (sym (c .before .bad-board .ensures) ∙ c .if3 .taken) in
     simp (le-ltb _ _ (c .before .before .before .before .before .if1 .left), le-ltb _ _ (c .before .before .before .before .if2 .left), found)
-
-add-i : tie.Need-add-i Inv-loop μ-loop
-add-i c = search needs
-
-loop-less : tie.Need-loop-less Inv-loop μ-loop
-loop-less c = search needs
 
 loop-again : tie.Need-loop-again Inv-loop μ-loop
 loop-again c =
@@ -61,14 +52,5 @@ pub bad-list-spec : {M : Type 1} → statement M
 bad-list-spec =
     tie.close
     (tie.spec
-    Inv-loop
-    μ-loop
-    returns
-    returns-2
-    loop-holds
-    bad-board-requires
-    returns-3
-    add-i
-    loop-less
-    loop-again
-    returns-4)
+    Inv-loop μ-loop returns returns-2 loop-holds (λ c κs. search needs) returns-3 (λ c. search needs) (λ c. search needs)
+    loop-again returns-4)

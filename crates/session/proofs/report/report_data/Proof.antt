@@ -18,32 +18,8 @@ Inv-loop boards count d₀ i₀ d i = (i ≤ count) × (d ≡ padded maxReport (
 abbrev μ-loop : tie.MeasureT-loop
 μ-loop boards count d₀ i₀ d i = count - i
 
-cast-d : tie.Need-cast-d Inv-loop μ-loop
-cast-d c = search needs
-
-array-write-d : tie.Need-array-write-d Inv-loop μ-loop
-array-write-d c = search needs
-
 loop-holds : tie.Need-loop-holds Inv-loop μ-loop
 loop-holds c = (search needs, sym (ap (padded maxReport) (soFar-none (c .args .boards) (c .args .count))))
-
-mul-with-board : tie.Need-mul-with-board Inv-loop μ-loop
-mul-with-board c = search needs
-
-add-with-board : tie.Need-add-with-board Inv-loop μ-loop
-add-with-board c = search needs
-
-board-at-requires : tie.Need-board-at-requires Inv-loop μ-loop
-board-at-requires c κs = search needs
-
-with-board-requires : tie.Need-with-board-requires Inv-loop μ-loop
-with-board-requires c κs = search needs
-
-add-i : tie.Need-add-i Inv-loop μ-loop
-add-i c = search needs
-
-loop-less : tie.Need-loop-less Inv-loop μ-loop
-loop-less c = search needs
 
 loop-again : tie.Need-loop-again Inv-loop μ-loop
 loop-again c =
@@ -66,16 +42,5 @@ pub report-data-spec : {M : Type 1} → statement M
 report-data-spec =
     tie.close
     (tie.spec
-    Inv-loop
-    μ-loop
-    cast-d
-    array-write-d
-    loop-holds
-    mul-with-board
-    add-with-board
-    board-at-requires
-    with-board-requires
-    add-i
-    loop-less
-    loop-again
-    returns)
+    Inv-loop μ-loop (λ c. search needs) (λ c. search needs) loop-holds (λ c. search needs) (λ c. search needs)
+    (λ c κs. search needs) (λ c κs. search needs) (λ c. search needs) (λ c. search needs) loop-again returns)

@@ -9,24 +9,6 @@ use Rattle.frames.proofs.Places.{part-written}
 use Rattle.session.proofs.report.with_board.Statement.{statement}
 use Rattle.session.proofs.report.with_board.Tie as tie
 
-board-bytes-requires : tie.Need-board-bytes-requires
-board-bytes-requires c κs = search needs
-
-slice-aggregate-copy : tie.Need-slice-aggregate-copy
-slice-aggregate-copy c = search needs
-
-sub-copy : tie.Need-sub-copy
-sub-copy c = search needs
-
-part-next-start : tie.Need-part-next-start
-part-next-start c = search needs
-
-part-next-end : tie.Need-part-next-end
-part-next-end c = search needs
-
-copy-requires : tie.Need-copy-requires
-copy-requires c κs = search needs
-
 returns : tie.Need-returns
 returns c =
     let o = c .before .before .before .before .before in
@@ -41,10 +23,5 @@ pub with-board-spec : {M : Type 1} → statement M
 with-board-spec =
     tie.close
     (tie.spec
-    board-bytes-requires
-    slice-aggregate-copy
-    sub-copy
-    part-next-start
-    part-next-end
-    copy-requires
+    (λ c κs. search needs) (λ c. search needs) (λ c. search needs) (λ c. search needs) (λ c. search needs) (λ c κs. search needs)
     returns)

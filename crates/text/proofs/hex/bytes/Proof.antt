@@ -25,38 +25,8 @@ returns c =
 loop-holds : tie.Need-loop-holds Inv-loop μ-loop
 loop-holds c = (omega arith, (omega arith, (refl, refl)))
 
-shared-slice-read-byte : tie.Need-shared-slice-read-byte Inv-loop μ-loop
-shared-slice-read-byte c = search needs
-
-byte-requires : tie.Need-byte-requires Inv-loop μ-loop
-byte-requires c κs = search needs
-
-array-read-room : tie.Need-array-read-room Inv-loop μ-loop
-array-read-room c = search needs
-
-mul-room : tie.Need-mul-room Inv-loop μ-loop
-mul-room c = search needs
-
-slice-write-room : tie.Need-slice-write-room Inv-loop μ-loop
-slice-write-room c = search needs
-
-array-read-room-2 : tie.Need-array-read-room-2 Inv-loop μ-loop
-array-read-room-2 c = search needs
-
-mul-room-2 : tie.Need-mul-room-2 Inv-loop μ-loop
-mul-room-2 c = search needs
-
-add-room : tie.Need-add-room Inv-loop μ-loop
-add-room c = search needs
-
 slice-write-room-2 : tie.Need-slice-write-room-2 Inv-loop μ-loop
 slice-write-room-2 c = simp length-set (omega arith)
-
-add-i : tie.Need-add-i Inv-loop μ-loop
-add-i c = search needs
-
-loop-less : tie.Need-loop-less Inv-loop μ-loop
-loop-less c = search needs
 
 loop-again : tie.Need-loop-again Inv-loop μ-loop
 loop-again c =
@@ -67,12 +37,6 @@ loop-again c =
     let digits = c .byte .ensures in
     let next = ap₂ (λ (d : List ℕ) (r : List ℕ). set (set r (2 * l .i) (getD d 0 0)) (2 * l .i + 1) (getD d 1 0)) digits (l .inv .1 .1 .1) ∙ written-next s room (l .i) (omega arith) (l .inv .1 .0) in
     (omega arith, (l .inv .1 .0, (ap length next ∙ length-written s room (l .i + 1) (omega arith) (l .inv .1 .0), next)))
-
-mul-result : tie.Need-mul-result Inv-loop μ-loop
-mul-result c = search needs
-
-same-length : tie.Need-same-length Inv-loop μ-loop
-same-length c = search needs
 
 returns-2 : tie.Need-returns-2 Inv-loop μ-loop
 returns-2 c =
@@ -86,22 +50,6 @@ pub bytes-spec : {M : Type 1} → statement M
 bytes-spec =
     tie.close
     (tie.spec
-    Inv-loop
-    μ-loop
-    returns
-    loop-holds
-    shared-slice-read-byte
-    byte-requires
-    array-read-room
-    mul-room
-    slice-write-room
-    array-read-room-2
-    mul-room-2
-    add-room
-    slice-write-room-2
-    add-i
-    loop-less
-    loop-again
-    mul-result
-    same-length
-    returns-2)
+    Inv-loop μ-loop returns loop-holds (λ c. search needs) (λ c κs. search needs) (λ c. search needs) (λ c. search needs)
+    (λ c. search needs) (λ c. search needs) (λ c. search needs) (λ c. search needs) slice-write-room-2 (λ c. search needs)
+    (λ c. search needs) loop-again (λ c. search needs) (λ c. search needs) returns-2)

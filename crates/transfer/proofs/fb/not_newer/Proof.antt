@@ -3,9 +3,6 @@ use borrow.Author.Needs.{needs}
 use Rattle.transfer.proofs.fb.not_newer.Statement.{statement}
 use Rattle.transfer.proofs.fb.not_newer.Tie as tie
 
-newer-requires : tie.Need-newer-requires
-newer-requires c κs = search needs
-
 returns : tie.Need-returns
 returns c = simp (← c .before .newer .ensures, c .if1 .taken)
 
@@ -13,4 +10,4 @@ returns-2 : tie.Need-returns-2
 returns-2 c = simp (← c .before .newer .ensures, c .if1 .left)
 
 pub not-newer-spec : {M : Type 1} → statement M
-not-newer-spec = tie.close (tie.spec newer-requires returns returns-2)
+not-newer-spec = tie.close (tie.spec (λ c κs. search needs) returns returns-2)

@@ -3,9 +3,6 @@ use borrow.Author.Needs.{needs}
 use Rattle.transfer.proofs.fb.other_pid.Statement.{statement}
 use Rattle.transfer.proofs.fb.other_pid.Tie as tie
 
-same8-requires : tie.Need-same8-requires
-same8-requires c κs = search needs
-
 returns : tie.Need-returns
 returns c = simp (← c .before .same8 .ensures, c .if1 .taken)
 
@@ -13,4 +10,4 @@ returns-2 : tie.Need-returns-2
 returns-2 c = simp (← c .before .same8 .ensures, c .if1 .left)
 
 pub other-pid-spec : {M : Type 1} → statement M
-other-pid-spec = tie.close (tie.spec same8-requires returns returns-2)
+other-pid-spec = tie.close (tie.spec (λ c κs. search needs) returns returns-2)

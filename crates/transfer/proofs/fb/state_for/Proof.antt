@@ -4,22 +4,13 @@ use Rattle.transfer.specs.FB.{stateFB}
 use Rattle.transfer.proofs.fb.state_for.Statement.{statement}
 use Rattle.transfer.proofs.fb.state_for.Tie as tie
 
-other-pid-requires : tie.Need-other-pid-requires
-other-pid-requires c κs = search needs
-
 returns : tie.Need-returns
 unfolding stateFB
 returns c = simp (← c .before .other-pid .ensures, c .if1 .taken)
 
-not-newer-requires : tie.Need-not-newer-requires
-not-newer-requires c κs = search needs
-
 returns-2 : tie.Need-returns-2
 unfolding stateFB
 returns-2 c = simp (← c .before .before .before .other-pid .ensures, c .before .before .if1 .left, ← c .before .not-newer .ensures, c .if2 .taken)
-
-bad-length-requires : tie.Need-bad-length-requires
-bad-length-requires c κs = search needs
 
 returns-3 : tie.Need-returns-3
 unfolding stateFB
@@ -33,10 +24,4 @@ pub state-for-spec : {M : Type 1} → statement M
 state-for-spec =
     tie.close
     (tie.spec
-    other-pid-requires
-    returns
-    not-newer-requires
-    returns-2
-    bad-length-requires
-    returns-3
-    returns-4)
+    (λ c κs. search needs) returns (λ c κs. search needs) returns-2 (λ c κs. search needs) returns-3 returns-4)

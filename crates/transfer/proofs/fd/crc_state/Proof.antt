@@ -3,9 +3,6 @@ use borrow.Author.Needs.{needs}
 use Rattle.transfer.proofs.fd.crc_state.Statement.{statement}
 use Rattle.transfer.proofs.fd.crc_state.Tie as tie
 
-wrong-crc-requires : tie.Need-wrong-crc-requires
-wrong-crc-requires c κs = search needs
-
 returns : tie.Need-returns
 returns c = simp (← c .before .wrong-crc .ensures, c .if1 .taken)
 
@@ -13,4 +10,4 @@ returns-2 : tie.Need-returns-2
 returns-2 c = simp (← c .before .wrong-crc .ensures, c .if1 .left)
 
 pub crc-state-spec : {M : Type 1} → statement M
-crc-state-spec = tie.close (tie.spec wrong-crc-requires returns returns-2)
+crc-state-spec = tie.close (tie.spec (λ c κs. search needs) returns returns-2)

@@ -5,30 +5,12 @@ use Rattle.controller.specs.Calls.{calledBy}
 use Rattle.controller.proofs.record.Record.feed.Statement.{statement}
 use Rattle.controller.proofs.record.Record.feed.Tie as tie
 
-refusal-requires : tie.Need-refusal-requires
-refusal-requires c κs = search needs
-
-refused-requires : tie.Need-refused-requires
-refused-requires c κs = search needs
-
 returns : tie.Need-returns
 unfolding calledBy
 returns c =
     let r = c .before .before .refusal .ensures in
     let is = ne-eqb _ _ (c .before .if1 .taken) in
     record { gives = simp (← r, is) (c .refused .ensures); leaves-room = simp (← r, is); leaves-area = simp (← r, is) }
-
-feed-requires : tie.Need-feed-requires
-feed-requires c κs = search needs
-
-finish-requires : tie.Need-finish-requires
-finish-requires c κs = search needs
-
-same-length : tie.Need-same-length
-same-length c = search needs
-
-same-length-2 : tie.Need-same-length-2
-same-length-2 c = search needs
 
 returns-2 : tie.Need-returns-2
 unfolding calledBy
@@ -43,11 +25,5 @@ pub feed-spec : {M : Type 1} → statement M
 feed-spec =
     tie.close
     (tie.spec
-    refusal-requires
-    refused-requires
-    returns
-    feed-requires
-    finish-requires
-    same-length
-    same-length-2
-    returns-2)
+    (λ c κs. search needs) (λ c κs. search needs) returns (λ c κs. search needs) (λ c κs. search needs) (λ c. search needs)
+    (λ c. search needs) returns-2)

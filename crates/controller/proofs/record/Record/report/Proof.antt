@@ -10,9 +10,6 @@ use Rattle.controller.specs.OutwardReport.{reported, roomReported, repor
 use Rattle.controller.proofs.record.Record.report.Statement.{statement}
 use Rattle.controller.proofs.record.Record.report.Tie as tie
 
-unlawful-requires : tie.Need-unlawful-requires
-unlawful-requires c κs = search needs
-
 returns : tie.Need-returns
 unfolding reported roomReported reportRefusal
 returns c =
@@ -31,12 +28,6 @@ returns-2 c =
     let good = sym (c .before .before .before .before .unlawful .ensures) ∙ c .before .before .before .if1 .left in
     let short = lt-ltb _ _ (c .if2 .taken) in
     record { gives = simp (good, short); leaves = simp (good, short) }
-
-report-requires : tie.Need-report-requires
-report-requires c κs = search needs
-
-same-length : tie.Need-same-length
-same-length c = search needs
 
 returns-3 : tie.Need-returns-3
 unfolding reported roomReported reportRefusal
@@ -57,11 +48,4 @@ pub report-spec : {M : Type 1} → statement M
 report-spec =
     tie.close
     (tie.spec
-    unlawful-requires
-    returns
-    mul-if2
-    add-if2
-    returns-2
-    report-requires
-    same-length
-    returns-3)
+    (λ c κs. search needs) returns mul-if2 add-if2 returns-2 (λ c κs. search needs) (λ c. search needs) returns-3)

@@ -9,12 +9,9 @@ returns : tie.Need-returns
 unfolding unlawfulRecord
 returns c = simp (lt-ltb _ _ (c .if1 .taken))
 
-unlawful-requires : tie.Need-unlawful-requires
-unlawful-requires c κs = search needs
-
 returns-2 : tie.Need-returns-2
 unfolding unlawfulRecord
 returns-2 c = simp (le-ltb _ _ (c .before .if1 .left), ← c .unlawful .ensures)
 
 pub unlawful-spec : {M : Type 1} → statement M
-unlawful-spec = tie.close (tie.spec returns unlawful-requires returns-2)
+unlawful-spec = tie.close (tie.spec returns (λ c κs. search needs) returns-2)

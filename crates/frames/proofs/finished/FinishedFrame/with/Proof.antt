@@ -21,12 +21,6 @@ returns-2 c =
     let a = c .before .before .before .args in
     simp (lt-leb (a .self .length + length (a .part .now)) maxData (omega arith))
 
-add-t7 : tie.Need-add-t7
-add-t7 c = search needs
-
-with-part-requires : tie.Need-with-part-requires
-with-part-requires c κs = search needs
-
 returns-3 : tie.Need-returns-3
 unfolding extended
 returns-3 c =
@@ -34,4 +28,4 @@ returns-3 c =
     simp (le-leb (a .self .length + length (a .part .now)) maxData (omega arith), c .with-part .ensures)
 
 pub with-spec : {M : Type 1} → statement M
-with-spec = tie.close (tie.spec returns returns-2 add-t7 with-part-requires returns-3)
+with-spec = tie.close (tie.spec returns returns-2 (λ c. search needs) (λ c κs. search needs) returns-3)

@@ -7,16 +7,10 @@ use Rattle.link.proofs.link.Link.without_oldest.Tie as tie
 returns : tie.Need-returns
 returns c = simp (eq-eqb _ _ (c .if1 .taken))
 
-place-requires : tie.Need-place-requires
-place-requires c κs = search needs
-
-sub-self : tie.Need-sub-self
-sub-self c = search needs
-
 returns-2 : tie.Need-returns-2
 returns-2 c =
     let p = c .before .place in
     simp (ne-eqb _ _ (c .before .before .if1 .left), p .ensures .0)
 
 pub without-oldest-spec : {M : Type 1} → statement M
-without-oldest-spec = tie.close (tie.spec returns place-requires sub-self returns-2)
+without-oldest-spec = tie.close (tie.spec returns (λ c κs. search needs) (λ c. search needs) returns-2)

@@ -4,17 +4,11 @@ use borrow.Author.Tests.{eq-eqb, ne-eqb}
 use Rattle.link.proofs.script.Script.after_sending.Statement.{statement}
 use Rattle.link.proofs.script.Script.after_sending.Tie as tie
 
-next-requires : tie.Need-next-requires
-next-requires c κs = search needs
-
 returns : tie.Need-returns
 returns c = simp (← c .before .next .ensures, eq-eqb _ _ (c .if1 .taken))
-
-after-requires : tie.Need-after-requires
-after-requires c κs = search needs
 
 returns-2 : tie.Need-returns-2
 returns-2 c = simp (← c .before .before .next .ensures, ne-eqb _ _ (c .before .if1 .left), c .after .ensures)
 
 pub after-sending-spec : {M : Type 1} → statement M
-after-sending-spec = tie.close (tie.spec next-requires returns after-requires returns-2)
+after-sending-spec = tie.close (tie.spec (λ c κs. search needs) returns (λ c κs. search needs) returns-2)

@@ -5,15 +5,6 @@ use Rattle.replay.proofs.Adding.{twenty-digits, adds-decimal}
 use Rattle.replay.proofs.line.Line.decimal.Statement.{statement}
 use Rattle.replay.proofs.line.Line.decimal.Tie as tie
 
-decimal-requires : tie.Need-decimal-requires
-decimal-requires c κs = search needs
-
-array-share-prefix-digits : tie.Need-array-share-prefix-digits
-array-share-prefix-digits c = search needs
-
-slice-aggregate-text : tie.Need-slice-aggregate-text
-slice-aggregate-text c = search needs
-
 text-requires : tie.Need-text-requires
 text-requires c κs =
     let o = c .before .before .before in
@@ -27,11 +18,4 @@ returns c =
     adds-decimal (o .args .n) (d .result) (d .last .1 .0) (omega arith) (d .ensures .0 .1) (d .ensures .1 .0) (d .ensures .1 .1) (c .text .ensures)
 
 pub decimal-spec : {M : Type 1} → statement M
-decimal-spec =
-    tie.close
-    (tie.spec
-    decimal-requires
-    array-share-prefix-digits
-    slice-aggregate-text
-    text-requires
-    returns)
+decimal-spec = tie.close (tie.spec (λ c κs. search needs) (λ c. search needs) (λ c. search needs) text-requires returns)

@@ -9,21 +9,6 @@ use Rattle.replay.proofs.Adding.{adds-both}
 use Rattle.replay.proofs.line.Line.hex.Statement.{statement}
 use Rattle.replay.proofs.line.Line.hex.Tie as tie
 
-byte-requires : tie.Need-byte-requires
-byte-requires c κs = search needs
-
-array-read-put : tie.Need-array-read-put
-array-read-put c = search needs
-
-put-requires : tie.Need-put-requires
-put-requires c κs = search needs
-
-array-read-put-2 : tie.Need-array-read-put-2
-array-read-put-2 c = search needs
-
-put-requires-2 : tie.Need-put-requires-2
-put-requires-2 c κs = search needs
-
 returns : tie.Need-returns
 returns c =
     let digits = c .before .before .byte in
@@ -34,4 +19,5 @@ returns c =
 pub hex-spec : {M : Type 1} → statement M
 hex-spec =
     tie.close
-    (tie.spec byte-requires array-read-put put-requires array-read-put-2 put-requires-2 returns)
+    (tie.spec
+    (λ c κs. search needs) (λ c. search needs) (λ c κs. search needs) (λ c. search needs) (λ c κs. search needs) returns)

@@ -5,14 +5,8 @@ use Rattle.replay.proofs.Adding.{adds-byte}
 use Rattle.replay.proofs.line.Line.put.Statement.{statement}
 use Rattle.replay.proofs.line.Line.put.Tie as tie
 
-element-write-self : tie.Need-element-write-self
-element-write-self c = search needs
-
-add-self : tie.Need-add-self
-add-self c = search needs
-
 returns : tie.Need-returns
 returns c = adds-byte (c .args .t1) (c .args .b) (omega arith)
 
 pub put-spec : {M : Type 1} → statement M
-put-spec = tie.close (tie.spec element-write-self add-self returns)
+put-spec = tie.close (tie.spec (λ c. search needs) (λ c. search needs) returns)

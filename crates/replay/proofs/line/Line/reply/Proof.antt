@@ -10,26 +10,11 @@ use Rattle.replay.proofs.Adding.{adds-reply, hex-count, no-reply}
 use Rattle.replay.proofs.line.Line.reply.Statement.{statement}
 use Rattle.replay.proofs.line.Line.reply.Tie as tie
 
-put-requires : tie.Need-put-requires
-put-requires c κs = search needs
-
 returns : tie.Need-returns
 returns c =
     let a = c .before .before .before .args in
     let none = no-reply (a .reply .now) (omega arith) in
     (subst (λ (t : List ℕ). Adds (a .self) t (c .put .result)) (sym none) (c .put .ensures), omega arith)
-
-sub-bytes : tie.Need-sub-bytes
-sub-bytes c = search needs
-
-part-all-start : tie.Need-part-all-start
-part-all-start c = search needs
-
-part-all-end : tie.Need-part-all-end
-part-all-end c = search needs
-
-bytes-requires : tie.Need-bytes-requires
-bytes-requires c κs = search needs
 
 count : (c : tie.After-all3) → c .before .bytes .result ≡ 2 * length (c .before .before .before .before .before .before .args .reply .now)
 count c =
@@ -49,11 +34,5 @@ pub reply-spec : {M : Type 1} → statement M
 reply-spec =
     tie.close
     (tie.spec
-    put-requires
-    returns
-    sub-bytes
-    part-all-start
-    part-all-end
-    bytes-requires
-    add-t6
+    (λ c κs. search needs) returns (λ c. search needs) (λ c. search needs) (λ c. search needs) (λ c κs. search needs) add-t6
     returns-2)

@@ -10,18 +10,6 @@ use Rattle.replay.specs.Texts.{textOf, FrameText}
 use Rattle.replay.proofs.run.Run.after.Statement.{statement}
 use Rattle.replay.proofs.run.Run.after.Tie as tie
 
-wrapping-add-usize-requires : tie.Need-wrapping-add-usize-requires
-wrapping-add-usize-requires c κs = search needs
-
-plus-requires : tie.Need-plus-requires
-plus-requires c κs = search needs
-
-plus-requires-2 : tie.Need-plus-requires-2
-plus-requires-2 c κs = search needs
-
-line-waits-requires : tie.Need-line-waits-requires
-line-waits-requires c κs = search needs
-
 returns : tie.Need-returns
 returns c =
     let place = c .before .before .before .before .plus in
@@ -35,24 +23,6 @@ returns c =
       ends = refl;
       writes = record { nothing = λ _. (refl, refl); line = λ due. absurd (false≢true (sym due ∙ waits)) };
     }
-
-line-at-requires : tie.Need-line-at-requires
-line-at-requires c κs = search needs
-
-slice-aggregate-front : tie.Need-slice-aggregate-front
-slice-aggregate-front c = search needs
-
-front-requires : tie.Need-front-requires
-front-requires c κs = search needs
-
-text-requires : tie.Need-text-requires
-text-requires c κs = search needs
-
-plus-requires-3 : tie.Need-plus-requires-3
-plus-requires-3 c κs = search needs
-
-plus-requires-4 : tie.Need-plus-requires-4
-plus-requires-4 c κs = search needs
 
 returns-2 : tie.Need-returns-2
 returns-2 c =
@@ -78,15 +48,5 @@ pub after-spec : {M : Type 1} → statement M
 after-spec =
     tie.close
     (tie.spec
-    wrapping-add-usize-requires
-    plus-requires
-    plus-requires-2
-    line-waits-requires
-    returns
-    line-at-requires
-    slice-aggregate-front
-    front-requires
-    text-requires
-    plus-requires-3
-    plus-requires-4
-    returns-2)
+    (λ c κs. search needs) (λ c κs. search needs) (λ c κs. search needs) (λ c κs. search needs) returns (λ c κs. search needs)
+    (λ c. search needs) (λ c κs. search needs) (λ c κs. search needs) (λ c κs. search needs) (λ c κs. search needs) returns-2)

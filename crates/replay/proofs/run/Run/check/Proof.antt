@@ -13,39 +13,6 @@ use Rattle.replay.proofs.Turns.{checks-on, check-ends}
 use Rattle.replay.proofs.run.Run.check.Statement.{statement}
 use Rattle.replay.proofs.run.Run.check.Tie as tie
 
-slice-aggregate-portion : tie.Need-slice-aggregate-portion
-slice-aggregate-portion c = search needs
-
-portion-requires : tie.Need-portion-requires
-portion-requires c κs = search needs
-
-enum-told : tie.Need-enum-told
-enum-told c = search needs
-
-with-record-requires : tie.Need-with-record-requires
-with-record-requires c κs = search needs
-
-line-at-requires : tie.Need-line-at-requires
-line-at-requires c κs = search needs
-
-slice-aggregate-front : tie.Need-slice-aggregate-front
-slice-aggregate-front c = search needs
-
-front-requires : tie.Need-front-requires
-front-requires c κs = search needs
-
-text-requires : tie.Need-text-requires
-text-requires c κs = search needs
-
-plus-requires : tie.Need-plus-requires
-plus-requires c κs = search needs
-
-plus-requires-2 : tie.Need-plus-requires-2
-plus-requires-2 c κs = search needs
-
-with-record-requires-2 : tie.Need-with-record-requires-2
-with-record-requires-2 c κs = search needs
-
 returns : tie.Need-returns
 returns c = checks-on (c .before .before .before .before .before .portion .ensures) (c .before .enum-told .given .1) (c .with-record .ensures) refl
 
@@ -69,16 +36,6 @@ pub check-spec : {M : Type 1} → statement M
 check-spec =
     tie.close
     (tie.spec
-    slice-aggregate-portion
-    portion-requires
-    enum-told
-    with-record-requires
-    line-at-requires
-    slice-aggregate-front
-    front-requires
-    text-requires
-    plus-requires
-    plus-requires-2
-    with-record-requires-2
-    returns
-    returns-2)
+    (λ c. search needs) (λ c κs. search needs) (λ c. search needs) (λ c κs. search needs) (λ c κs. search needs)
+    (λ c. search needs) (λ c κs. search needs) (λ c κs. search needs) (λ c κs. search needs) (λ c κs. search needs)
+    (λ c κs. search needs) returns returns-2)

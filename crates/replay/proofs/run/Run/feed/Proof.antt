@@ -12,18 +12,6 @@ use Rattle.replay.proofs.Turns.{passes, length-left}
 use Rattle.replay.proofs.run.Run.feed.Statement.{statement}
 use Rattle.replay.proofs.run.Run.feed.Tie as tie
 
-front-requires : tie.Need-front-requires
-front-requires c κs = search needs
-
-behind-requires : tie.Need-behind-requires
-behind-requires c κs = search needs
-
-read-requires : tie.Need-read-requires
-read-requires c κs = search needs
-
-same-length : tie.Need-same-length
-same-length c = search needs
-
 returns : tie.Need-returns
 returns c =
     let begun = c .before .before .before .before .before .before in
@@ -32,21 +20,6 @@ returns c =
     let left = begun .behind .ensures ∙ ap (drop (a .self .at)) (begun .before .front .ensures) in
     let none = ap length left ∙ length-left (a .self .at) (a .self .end) (a .input .now) in
     record { feeds = λ h. absurd (omega (arith, none)); reads = λ _. (c .before .before .read .ensures, (refl, refl)) }
-
-slice-aggregate-feed : tie.Need-slice-aggregate-feed
-slice-aggregate-feed c = search needs
-
-feed-requires : tie.Need-feed-requires
-feed-requires c κs = search needs
-
-after-requires : tie.Need-after-requires
-after-requires c κs = search needs
-
-same-length-2 : tie.Need-same-length-2
-same-length-2 c = search needs
-
-same-length-3 : tie.Need-same-length-3
-same-length-3 c = search needs
 
 returns-2 : tie.Need-returns-2
 returns-2 c =
@@ -67,14 +40,5 @@ pub feed-spec : {M : Type 1} → statement M
 feed-spec =
     tie.close
     (tie.spec
-    front-requires
-    behind-requires
-    read-requires
-    same-length
-    returns
-    slice-aggregate-feed
-    feed-requires
-    after-requires
-    same-length-2
-    same-length-3
-    returns-2)
+    (λ c κs. search needs) (λ c κs. search needs) (λ c κs. search needs) (λ c. search needs) returns (λ c. search needs)
+    (λ c κs. search needs) (λ c κs. search needs) (λ c. search needs) (λ c. search needs) returns-2)

@@ -6,23 +6,8 @@ use Rattle.replay.proofs.run.Run.is_over.Tie as tie
 returns : tie.Need-returns
 returns c = rw (c .if1 .taken)
 
-is-checking-requires : tie.Need-is-checking-requires
-is-checking-requires c κs = search needs
-
 returns-2 : tie.Need-returns-2
 returns-2 c = simp (c .before .before .if1 .left, ← c .before .is-checking .ensures, c .if2 .taken)
-
-enum-told : tie.Need-enum-told
-enum-told c = search needs
-
-enum-told-2 : tie.Need-enum-told-2
-enum-told-2 c = search needs
-
-enum-told-3 : tie.Need-enum-told-3
-enum-told-3 c = search needs
-
-enum-told-4 : tie.Need-enum-told-4
-enum-told-4 c = search needs
 
 returns-3 : tie.Need-returns-3
 returns-3 c = simp (c .before .before .before .before .if1 .left, ← c .before .before .before .is-checking .ensures, c .before .before .if2 .left, c .enum-told .given .1)
@@ -40,14 +25,5 @@ pub is-over-spec : {M : Type 1} → statement M
 is-over-spec =
     tie.close
     (tie.spec
-    returns
-    is-checking-requires
-    returns-2
-    enum-told
-    enum-told-2
-    enum-told-3
-    enum-told-4
-    returns-3
-    returns-4
-    returns-5
-    returns-6)
+    returns (λ c κs. search needs) returns-2 (λ c. search needs) (λ c. search needs) (λ c. search needs) (λ c. search needs)
+    returns-3 returns-4 returns-5 returns-6)

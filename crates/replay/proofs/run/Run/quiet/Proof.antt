@@ -4,21 +4,6 @@ use Rattle.replay.proofs.Turns.{passes-quiet}
 use Rattle.replay.proofs.run.Run.quiet.Statement.{statement}
 use Rattle.replay.proofs.run.Run.quiet.Tie as tie
 
-slice-aggregate-quiet : tie.Need-slice-aggregate-quiet
-slice-aggregate-quiet c = search needs
-
-quiet-requires : tie.Need-quiet-requires
-quiet-requires c κs = search needs
-
-stage-quiet-requires : tie.Need-stage-quiet-requires
-stage-quiet-requires c κs = search needs
-
-after-requires : tie.Need-after-requires
-after-requires c κs = search needs
-
-same-length : tie.Need-same-length
-same-length c = search needs
-
 returns : tie.Need-returns
 returns c = passes-quiet (c .before .before .before .stage-quiet .ensures) (c .before .before .before .before .before .before .before .quiet .ensures) (c .after .ensures)
 
@@ -26,9 +11,4 @@ pub quiet-spec : {M : Type 1} → statement M
 quiet-spec =
     tie.close
     (tie.spec
-    slice-aggregate-quiet
-    quiet-requires
-    stage-quiet-requires
-    after-requires
-    same-length
-    returns)
+    (λ c. search needs) (λ c κs. search needs) (λ c κs. search needs) (λ c κs. search needs) (λ c. search needs) returns)

@@ -7,33 +7,12 @@ use Rattle.replay.specs.Runs.{ReadsOn}
 use Rattle.replay.proofs.run.Run.read.Statement.{statement}
 use Rattle.replay.proofs.run.Run.read.Tie as tie
 
-flush-requires : tie.Need-flush-requires
-flush-requires c κs = search needs
-
-filled-requires : tie.Need-filled-requires
-filled-requires c κs = search needs
-
 returns : tie.Need-returns
 returns c =
     let o = c .before .before .before .before .before in
     let flushed = c .before .before .flush .ensures in
     subst (ReadsOn (o .args .self) (o .args .input .now)) (sym (c .filled .ensures))
     (record { keeps = refl; stays = refl; drops = refl; starts = refl; flushes = flushed; within = omega arith; goes-on = λ e. absurd (false≢true (sym e ∙ c .before .if1 .taken)) })
-
-read-requires : tie.Need-read-requires
-read-requires c κs = search needs
-
-count-requires : tie.Need-count-requires
-count-requires c κs = search needs
-
-stage-read-requires : tie.Need-stage-read-requires
-stage-read-requires c κs = search needs
-
-filled-requires-2 : tie.Need-filled-requires-2
-filled-requires-2 c κs = search needs
-
-same-length : tie.Need-same-length
-same-length c = search needs
 
 returns-2 : tie.Need-returns-2
 returns-2 c =
@@ -54,4 +33,6 @@ returns-2 c =
 pub read-spec : {M : Type 1} → statement M
 read-spec =
     tie.close
-    (tie.spec flush-requires filled-requires returns read-requires count-requires stage-read-requires filled-requires-2 same-length returns-2)
+    (tie.spec
+    (λ c κs. search needs) (λ c κs. search needs) returns (λ c κs. search needs) (λ c κs. search needs) (λ c κs. search needs)
+    (λ c κs. search needs) (λ c. search needs) returns-2)

@@ -3,11 +3,8 @@ use borrow.Author.Needs.{needs}
 use Rattle.replay.proofs.run.Run.start.Statement.{statement}
 use Rattle.replay.proofs.run.Run.start.Tie as tie
 
-empty-requires : tie.Need-empty-requires
-empty-requires c κs = search needs
-
 returns : tie.Need-returns
 returns c = simp (c .empty .ensures)
 
 pub start-spec : {M : Type 1} → statement M
-start-spec = tie.close (tie.spec empty-requires returns)
+start-spec = tie.close (tie.spec (λ c κs. search needs) returns)

@@ -22,52 +22,16 @@ module _ (c : tie.Start) (r : Run) (input′ after area : List ℕ) where
   in-stage : (s : Stage) → checking (c .args .self) ≡ false → c .args .self .stage ≡ s → Turns false s → Turns (checking (c .args .self)) (c .args .self .stage)
   in-stage s none e t = subst (λ (b : Bool). Turns b (c .args .self .stage)) (sym none) (subst (λ (x : Stage). Turns false x) (sym e) t)
 
-is-checking-requires : tie.Need-is-checking-requires
-is-checking-requires c κs = search needs
-
-check-requires : tie.Need-check-requires
-check-requires c κs = search needs
-
-same-length : tie.Need-same-length
-same-length c = search needs
-
 returns : tie.Need-returns
 returns c =
     let asked = c .before .before .before .before in
     in-check (asked .before .before .before) _ _ _ _ (sym (asked .is-checking .ensures) ∙ c .before .before .before .if1 .taken) (c .check .ensures, (refl, refl))
-
-enum-told : tie.Need-enum-told
-enum-told c = search needs
-
-feed-requires : tie.Need-feed-requires
-feed-requires c κs = search needs
-
-enum-told-2 : tie.Need-enum-told-2
-enum-told-2 c = search needs
-
-quiet-requires : tie.Need-quiet-requires
-quiet-requires c κs = search needs
-
-enum-told-3 : tie.Need-enum-told-3
-enum-told-3 c = search needs
-
-enum-told-4 : tie.Need-enum-told-4
-enum-told-4 c = search needs
-
-same-length-2 : tie.Need-same-length-2
-same-length-2 c = search needs
-
-same-length-3 : tie.Need-same-length-3
-same-length-3 c = search needs
 
 returns-2 : tie.Need-returns-2
 returns-2 c =
     let told = c .before .before .before .before .before .before .before .before in
     let asked = told .before .before .before in
     in-stage (asked .before .before .before) _ _ _ _ _ (sym (asked .is-checking .ensures) ∙ told .before .before .if1 .left) (told .enum-told .given .1) (c .before .before .before .before .feed .ensures)
-
-same-length-4 : tie.Need-same-length-4
-same-length-4 c = search needs
 
 returns-3 : tie.Need-returns-3
 returns-3 c =
@@ -89,20 +53,6 @@ pub turn-spec : {M : Type 1} → statement M
 turn-spec =
     tie.close
     (tie.spec
-    is-checking-requires
-    check-requires
-    same-length
-    returns
-    enum-told
-    feed-requires
-    enum-told-2
-    quiet-requires
-    enum-told-3
-    enum-told-4
-    same-length-2
-    same-length-3
-    returns-2
-    same-length-4
-    returns-3
-    returns-4
-    returns-5)
+    (λ c κs. search needs) (λ c κs. search needs) (λ c. search needs) returns (λ c. search needs) (λ c κs. search needs)
+    (λ c. search needs) (λ c κs. search needs) (λ c. search needs) (λ c. search needs) (λ c. search needs) (λ c. search needs)
+    returns-2 (λ c. search needs) returns-3 returns-4 returns-5)

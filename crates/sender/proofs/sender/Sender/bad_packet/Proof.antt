@@ -10,12 +10,6 @@ use borrow.Author.Tests.{le-ltb, lt-ltb}
 use Rattle.sender.proofs.sender.Sender.bad_packet.Statement.{statement}
 use Rattle.sender.proofs.sender.Sender.bad_packet.Tie as tie
 
-cast-packet-size : tie.Need-cast-packet-size
-cast-packet-size c = search needs
-
-packet-size-requires : tie.Need-packet-size-requires
-packet-size-requires c κs = search needs
-
 div-result : tie.Need-div-result
 div-result c =
     let some = packet-some (c .before .before .before .before .before .args .self .size) (c .before .before .before .before .before .pre) in
@@ -34,5 +28,4 @@ returns-2 : tie.Need-returns-2
 returns-2 c = simp (le-ltb _ _ (c .if1 .left))
 
 pub bad-packet-spec : {M : Type 1} → statement M
-bad-packet-spec =
-    tie.close (tie.spec cast-packet-size packet-size-requires div-result returns returns-2)
+bad-packet-spec = tie.close (tie.spec (λ c. search needs) (λ c κs. search needs) div-result returns returns-2)

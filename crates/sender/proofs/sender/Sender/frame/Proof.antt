@@ -5,51 +5,6 @@ use Rattle.sender.specs.Requests.{requestOf}
 use Rattle.sender.proofs.sender.Sender.frame.Statement.{statement}
 use Rattle.sender.proofs.sender.Sender.frame.Tie as tie
 
-enum-told : tie.Need-enum-told
-enum-told c = search needs
-
-cast-t5 : tie.Need-cast-t5
-cast-t5 c = search needs
-
-fa-requires : tie.Need-fa-requires
-fa-requires c κs = search needs
-
-enum-told-2 : tie.Need-enum-told-2
-enum-told-2 c = search needs
-
-telling-requires : tie.Need-telling-requires
-telling-requires c κs = search needs
-
-enum-told-3 : tie.Need-enum-told-3
-enum-told-3 c = search needs
-
-fc-requires : tie.Need-fc-requires
-fc-requires c κs = search needs
-
-enum-told-4 : tie.Need-enum-told-4
-enum-told-4 c = search needs
-
-sending-requires : tie.Need-sending-requires
-sending-requires c κs = search needs
-
-enum-told-5 : tie.Need-enum-told-5
-enum-told-5 c = search needs
-
-fe-requires : tie.Need-fe-requires
-fe-requires c κs = search needs
-
-enum-told-6 : tie.Need-enum-told-6
-enum-told-6 c = search needs
-
-empty-requires : tie.Need-empty-requires
-empty-requires c κs = search needs
-
-enum-told-7 : tie.Need-enum-told-7
-enum-told-7 c = search needs
-
-empty-requires-2 : tie.Need-empty-requires-2
-empty-requires-2 c κs = search needs
-
 returns : tie.Need-returns
 unfolding requestOf
 returns c = simp (c .before .before .enum-told .given .1, c .fa .ensures)
@@ -82,25 +37,7 @@ pub frame-spec : {M : Type 1} → statement M
 frame-spec =
     tie.close
     (tie.spec
-    enum-told
-    cast-t5
-    fa-requires
-    enum-told-2
-    telling-requires
-    enum-told-3
-    fc-requires
-    enum-told-4
-    sending-requires
-    enum-told-5
-    fe-requires
-    enum-told-6
-    empty-requires
-    enum-told-7
-    empty-requires-2
-    returns
-    returns-2
-    returns-3
-    returns-4
-    returns-5
-    returns-6
-    returns-7)
+    (λ c. search needs) (λ c. search needs) (λ c κs. search needs) (λ c. search needs) (λ c κs. search needs) (λ c. search needs)
+    (λ c κs. search needs) (λ c. search needs) (λ c κs. search needs) (λ c. search needs) (λ c κs. search needs)
+    (λ c. search needs) (λ c κs. search needs) (λ c. search needs) (λ c κs. search needs) returns returns-2 returns-3 returns-4
+    returns-5 returns-6 returns-7)

@@ -4,21 +4,9 @@ use Rattle.sender.specs.Replies.{judgedFC}
 use Rattle.sender.proofs.sender.Sender.judge_fc.Statement.{statement}
 use Rattle.sender.proofs.sender.Sender.judge_fc.Tie as tie
 
-wrong-fc-requires : tie.Need-wrong-fc-requires
-wrong-fc-requires c κs = search needs
-
-wrong-reply-requires : tie.Need-wrong-reply-requires
-wrong-reply-requires c κs = search needs
-
 returns : tie.Need-returns
 unfolding judgedFC
 returns c = simp (← c .before .before .wrong-fc .ensures, c .before .if1 .taken, c .wrong-reply .ensures)
-
-onward-requires : tie.Need-onward-requires
-onward-requires c κs = search needs
-
-to-requires : tie.Need-to-requires
-to-requires c κs = search needs
 
 returns-2 : tie.Need-returns-2
 unfolding judgedFC
@@ -27,4 +15,5 @@ returns-2 c = simp (← c .before .before .before .wrong-fc .ensures, c .before 
 pub judge-fc-spec : {M : Type 1} → statement M
 judge-fc-spec =
     tie.close
-    (tie.spec wrong-fc-requires wrong-reply-requires returns onward-requires to-requires returns-2)
+    (tie.spec
+    (λ c κs. search needs) (λ c κs. search needs) returns (λ c κs. search needs) (λ c κs. search needs) returns-2)

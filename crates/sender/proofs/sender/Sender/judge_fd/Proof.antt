@@ -7,39 +7,18 @@ use Rattle.sender.specs.Replies.{judgedFD}
 use Rattle.sender.proofs.sender.Sender.judge_fd.Statement.{statement}
 use Rattle.sender.proofs.sender.Sender.judge_fd.Tie as tie
 
-wrong-fd-requires : tie.Need-wrong-fd-requires
-wrong-fd-requires c κs = search needs
-
-wrong-reply-requires : tie.Need-wrong-reply-requires
-wrong-reply-requires c κs = search needs
-
 returns : tie.Need-returns
 unfolding judgedFD
 returns c = simp (← c .before .before .wrong-fd .ensures, c .before .if1 .taken, c .wrong-reply .ensures)
-
-next-size-requires : tie.Need-next-size-requires
-next-size-requires c κs = search needs
 
 add-place : tie.Need-add-place
 add-place c =
     let s = c .before .before .before .before .before .before .args .self in
     omega (arith, c .before .next-size .ensures, next-fits s, c .before .before .before .before .before .before .pre)
 
-add-onward : tie.Need-add-onward
-add-onward c = search needs
-
-onward-requires : tie.Need-onward-requires
-onward-requires c κs = search needs
-
-to-requires : tie.Need-to-requires
-to-requires c κs = search needs
-
 returns-2 : tie.Need-returns-2
 unfolding judgedFD
 returns-2 c = simp (← c .before .before .before .before .before .before .before .before .wrong-fd .ensures, c .before .before .before .before .before .before .before .if1 .left, eq-eqb _ _ (c .before .before .before .before .before .if2 .taken), ← c .before .before .before .before .next-size .ensures, c .before .onward .ensures, c .to .ensures)
-
-leg-over-requires : tie.Need-leg-over-requires
-leg-over-requires c κs = search needs
 
 returns-3 : tie.Need-returns-3
 unfolding judgedFD
@@ -49,14 +28,5 @@ pub judge-fd-spec : {M : Type 1} → statement M
 judge-fd-spec =
     tie.close
     (tie.spec
-    wrong-fd-requires
-    wrong-reply-requires
-    returns
-    next-size-requires
-    add-place
-    add-onward
-    onward-requires
-    to-requires
-    returns-2
-    leg-over-requires
-    returns-3)
+    (λ c κs. search needs) (λ c κs. search needs) returns (λ c κs. search needs) add-place (λ c. search needs)
+    (λ c κs. search needs) (λ c κs. search needs) returns-2 (λ c κs. search needs) returns-3)

@@ -5,22 +5,13 @@ use Rattle.sender.specs.Decisions.{legOver}
 use Rattle.sender.proofs.sender.Sender.leg_over.Statement.{statement}
 use Rattle.sender.proofs.sender.Sender.leg_over.Tie as tie
 
-anew-requires : tie.Need-anew-requires
-anew-requires c κs = search needs
-
-to-requires : tie.Need-to-requires
-to-requires c κs = search needs
-
 returns : tie.Need-returns
 unfolding legOver
 returns c = simp (lt-ltb _ _ (c .before .before .if1 .taken), c .before .anew .ensures, c .to .ensures)
-
-given-up-requires : tie.Need-given-up-requires
-given-up-requires c κs = search needs
 
 returns-2 : tie.Need-returns-2
 unfolding legOver
 returns-2 c = simp (le-ltb _ _ (c .before .if1 .left), c .given-up .ensures)
 
 pub leg-over-spec : {M : Type 1} → statement M
-leg-over-spec = tie.close (tie.spec anew-requires to-requires returns given-up-requires returns-2)
+leg-over-spec = tie.close (tie.spec (λ c κs. search needs) (λ c κs. search needs) returns (λ c κs. search needs) returns-2)

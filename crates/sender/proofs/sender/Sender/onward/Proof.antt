@@ -5,19 +5,13 @@ use Rattle.sender.specs.Replies.{onward}
 use Rattle.sender.proofs.sender.Sender.onward.Statement.{statement}
 use Rattle.sender.proofs.sender.Sender.onward.Tie as tie
 
-moved-requires : tie.Need-moved-requires
-moved-requires c κs = search needs
-
 returns : tie.Need-returns
 unfolding onward
 returns c = simp (lt-ltb _ _ (c .before .if1 .taken), c .moved .ensures)
-
-moved-requires-2 : tie.Need-moved-requires-2
-moved-requires-2 c κs = search needs
 
 returns-2 : tie.Need-returns-2
 unfolding onward
 returns-2 c = simp (le-ltb _ _ (c .before .if1 .left), c .moved2 .ensures)
 
 pub onward-spec : {M : Type 1} → statement M
-onward-spec = tie.close (tie.spec moved-requires returns moved-requires-2 returns-2)
+onward-spec = tie.close (tie.spec (λ c κs. search needs) returns (λ c κs. search needs) returns-2)

@@ -4,12 +4,6 @@ use Rattle.sender.specs.Opening.{opened}
 use Rattle.sender.proofs.sender.Sender.open.Statement.{statement}
 use Rattle.sender.proofs.sender.Sender.open.Tie as tie
 
-bad-image-requires : tie.Need-bad-image-requires
-bad-image-requires c κs = search needs
-
-none-requires : tie.Need-none-requires
-none-requires c κs = search needs
-
 returns : tie.Need-returns
 unfolding opened
 returns c = simp (← c .before .before .bad-image .ensures, c .before .if1 .taken, c .none .ensures)
@@ -19,4 +13,4 @@ unfolding opened
 returns-2 c = simp (← c .before .bad-image .ensures, c .if1 .left)
 
 pub open-spec : {M : Type 1} → statement M
-open-spec = tie.close (tie.spec bad-image-requires none-requires returns returns-2)
+open-spec = tie.close (tie.spec (λ c κs. search needs) (λ c κs. search needs) returns returns-2)

@@ -5,9 +5,6 @@ use Rattle.sender.specs.Requests.{refusalOf}
 use Rattle.sender.proofs.sender.Sender.refusal.Statement.{statement}
 use Rattle.sender.proofs.sender.Sender.refusal.Tie as tie
 
-unlawful-requires : tie.Need-unlawful-requires
-unlawful-requires c κs = search needs
-
 returns : tie.Need-returns
 unfolding refusalOf
 returns c = simp (← c .before .unlawful .ensures, c .if1 .taken)
@@ -21,4 +18,4 @@ unfolding refusalOf
 returns-3 c = simp (← c .before .before .before .unlawful .ensures, c .before .before .if1 .left, ne-eqb _ _ (c .if2 .left))
 
 pub refusal-spec : {M : Type 1} → statement M
-refusal-spec = tie.close (tie.spec unlawful-requires returns returns-2 returns-3)
+refusal-spec = tie.close (tie.spec (λ c κs. search needs) returns returns-2 returns-3)

@@ -4,24 +4,9 @@ use Rattle.sender.specs.Replies.{repliedFA}
 use Rattle.sender.proofs.sender.Sender.reply_fa.Statement.{statement}
 use Rattle.sender.proofs.sender.Sender.reply_fa.Tie as tie
 
-is-reply-requires : tie.Need-is-reply-requires
-is-reply-requires c κs = search needs
-
-data-requires : tie.Need-data-requires
-data-requires c κs = search needs
-
-fa-requires : tie.Need-fa-requires
-fa-requires c κs = search needs
-
-judge-fa-requires : tie.Need-judge-fa-requires
-judge-fa-requires c κs = search needs
-
 returns : tie.Need-returns
 unfolding repliedFA
 returns c = simp (← c .before .before .before .before .is-reply .ensures, c .before .before .before .if1 .taken, c .before .before .«data» .ensures, c .before .fa .ensures, c .judge-fa .ensures)
-
-wrong-reply-requires : tie.Need-wrong-reply-requires
-wrong-reply-requires c κs = search needs
 
 returns-2 : tie.Need-returns-2
 unfolding repliedFA
@@ -31,10 +16,5 @@ pub reply-fa-spec : {M : Type 1} → statement M
 reply-fa-spec =
     tie.close
     (tie.spec
-    is-reply-requires
-    data-requires
-    fa-requires
-    judge-fa-requires
-    returns
-    wrong-reply-requires
+    (λ c κs. search needs) (λ c κs. search needs) (λ c κs. search needs) (λ c κs. search needs) returns (λ c κs. search needs)
     returns-2)

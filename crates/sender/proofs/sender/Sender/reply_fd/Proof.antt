@@ -4,24 +4,9 @@ use Rattle.sender.specs.Replies.{repliedFD}
 use Rattle.sender.proofs.sender.Sender.reply_fd.Statement.{statement}
 use Rattle.sender.proofs.sender.Sender.reply_fd.Tie as tie
 
-is-reply-requires : tie.Need-is-reply-requires
-is-reply-requires c κs = search needs
-
-data-requires : tie.Need-data-requires
-data-requires c κs = search needs
-
-state-requires : tie.Need-state-requires
-state-requires c κs = search needs
-
-judge-fd-requires : tie.Need-judge-fd-requires
-judge-fd-requires c κs = search needs
-
 returns : tie.Need-returns
 unfolding repliedFD
 returns c = simp (← c .before .before .before .before .is-reply .ensures, c .before .before .before .if1 .taken, c .before .before .«data» .ensures, c .before .state .ensures, c .judge-fd .ensures)
-
-wrong-reply-requires : tie.Need-wrong-reply-requires
-wrong-reply-requires c κs = search needs
 
 returns-2 : tie.Need-returns-2
 unfolding repliedFD
@@ -31,10 +16,5 @@ pub reply-fd-spec : {M : Type 1} → statement M
 reply-fd-spec =
     tie.close
     (tie.spec
-    is-reply-requires
-    data-requires
-    state-requires
-    judge-fd-requires
-    returns
-    wrong-reply-requires
+    (λ c κs. search needs) (λ c κs. search needs) (λ c κs. search needs) (λ c κs. search needs) returns (λ c κs. search needs)
     returns-2)

@@ -4,24 +4,9 @@ use Rattle.sender.specs.Replies.{repliedFE}
 use Rattle.sender.proofs.sender.Sender.reply_fe.Statement.{statement}
 use Rattle.sender.proofs.sender.Sender.reply_fe.Tie as tie
 
-is-reply-requires : tie.Need-is-reply-requires
-is-reply-requires c κs = search needs
-
-data-requires : tie.Need-data-requires
-data-requires c κs = search needs
-
-state-requires : tie.Need-state-requires
-state-requires c κs = search needs
-
-judge-fe-requires : tie.Need-judge-fe-requires
-judge-fe-requires c κs = search needs
-
 returns : tie.Need-returns
 unfolding repliedFE
 returns c = simp (← c .before .before .before .before .is-reply .ensures, c .before .before .before .if1 .taken, c .before .before .«data» .ensures, c .before .state .ensures, c .judge-fe .ensures)
-
-wrong-reply-requires : tie.Need-wrong-reply-requires
-wrong-reply-requires c κs = search needs
 
 returns-2 : tie.Need-returns-2
 unfolding repliedFE
@@ -31,10 +16,5 @@ pub reply-fe-spec : {M : Type 1} → statement M
 reply-fe-spec =
     tie.close
     (tie.spec
-    is-reply-requires
-    data-requires
-    state-requires
-    judge-fe-requires
-    returns
-    wrong-reply-requires
+    (λ c κs. search needs) (λ c κs. search needs) (λ c κs. search needs) (λ c κs. search needs) returns (λ c κs. search needs)
     returns-2)

@@ -12,20 +12,11 @@ use Rattle.sender.proofs.Requests.{request-refused, request-short, requ
 use Rattle.sender.proofs.sender.Sender.request.Statement.{statement}
 use Rattle.sender.proofs.sender.Sender.request.Tie as tie
 
-refusal-requires : tie.Need-refusal-requires
-refusal-requires c κs = search needs
-
-without-request-requires : tie.Need-without-request-requires
-without-request-requires c κs = search needs
-
 returns : tie.Need-returns
 returns c =
     let a = c .before .before .before .before .before .args in
     let e = request-refused (a .self) (a .image .now) (a .room .now) _ (sym (c .before .before .refusal .ensures)) (c .before .if1 .taken) in
     (c .without-request .ensures ∙ sym (e .0), sym (e .1))
-
-without-request-requires-2 : tie.Need-without-request-requires-2
-without-request-requires-2 c κs = search needs
 
 returns-2 : tie.Need-returns-2
 returns-2 c =
@@ -34,27 +25,12 @@ returns-2 c =
     let e = request-short (a .self) (a .image .now) (a .room .now) ok (c .before .if2 .taken) in
     (c .without-request2 .ensures ∙ sym (e .0), sym (e .1))
 
-is-over-requires : tie.Need-is-over-requires
-is-over-requires c κs = search needs
-
-without-request-requires-3 : tie.Need-without-request-requires-3
-without-request-requires-3 c κs = search needs
-
 returns-3 : tie.Need-returns-3
 returns-3 c =
     let a = c .before .before .before .before .before .before .before .before .args in
     let ok = sym (c .before .before .before .before .before .refusal .ensures) ∙ c .before .before .before .before .if1 .left in
     let e = request-over (a .self) (a .image .now) (a .room .now) ok (c .before .before .before .if2 .left) (sym (c .before .before .is-over .ensures) ∙ c .before .if3 .taken) in
     (c .without-request3 .ensures ∙ sym (e .0), sym (e .1))
-
-frame-requires : tie.Need-frame-requires
-frame-requires c κs = search needs
-
-write-requires : tie.Need-write-requires
-write-requires c κs = search needs
-
-same-length : tie.Need-same-length
-same-length c = search needs
 
 returns-4 : tie.Need-returns-4
 returns-4 c =
@@ -69,15 +45,5 @@ pub request-spec : {M : Type 1} → statement M
 request-spec =
     tie.close
     (tie.spec
-    refusal-requires
-    without-request-requires
-    returns
-    without-request-requires-2
-    returns-2
-    is-over-requires
-    without-request-requires-3
-    returns-3
-    frame-requires
-    write-requires
-    same-length
-    returns-4)
+    (λ c κs. search needs) (λ c κs. search needs) returns (λ c κs. search needs) returns-2 (λ c κs. search needs)
+    (λ c κs. search needs) returns-3 (λ c κs. search needs) (λ c κs. search needs) (λ c. search needs) returns-4)

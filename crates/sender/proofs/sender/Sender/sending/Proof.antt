@@ -13,21 +13,6 @@ use Rattle.sender.proofs.Packets.{packet-whole}
 use Rattle.sender.proofs.sender.Sender.sending.Statement.{statement}
 use Rattle.sender.proofs.sender.Sender.sending.Tie as tie
 
-next-size-requires : tie.Need-next-size-requires
-next-size-requires c κs = search needs
-
-part-requires : tie.Need-part-requires
-part-requires c κs = search needs
-
-modbus-requires : tie.Need-modbus-requires
-modbus-requires c κs = search needs
-
-cast-t7 : tie.Need-cast-t7
-cast-t7 c = search needs
-
-fd-requires : tie.Need-fd-requires
-fd-requires c κs = search needs
-
 returns : tie.Need-returns
 returns c =
     let a = c .before .before .before .before .before .args in
@@ -45,4 +30,5 @@ returns c =
 pub sending-spec : {M : Type 1} → statement M
 sending-spec =
     tie.close
-    (tie.spec next-size-requires part-requires modbus-requires cast-t7 fd-requires returns)
+    (tie.spec
+    (λ c κs. search needs) (λ c κs. search needs) (λ c κs. search needs) (λ c. search needs) (λ c κs. search needs) returns)

@@ -5,24 +5,13 @@ use Rattle.sender.specs.Silences.{silent}
 use Rattle.sender.proofs.sender.Sender.silence.Statement.{statement}
 use Rattle.sender.proofs.sender.Sender.silence.Tie as tie
 
-refusal-requires : tie.Need-refusal-requires
-refusal-requires c κs = search needs
-
-silence-in-phase-requires : tie.Need-silence-in-phase-requires
-silence-in-phase-requires c κs = search needs
-
 returns : tie.Need-returns
 unfolding silent
 returns c = simp (← c .before .before .refusal .ensures, eq-eqb _ _ (c .before .if1 .taken), c .silence-in-phase .ensures)
-
-refused-requires : tie.Need-refused-requires
-refused-requires c κs = search needs
 
 returns-2 : tie.Need-returns-2
 unfolding silent
 returns-2 c = simp (← c .before .before .refusal .ensures, ne-eqb _ _ (c .before .if1 .left), c .refused .ensures)
 
 pub silence-spec : {M : Type 1} → statement M
-silence-spec =
-    tie.close
-    (tie.spec refusal-requires silence-in-phase-requires returns refused-requires returns-2)
+silence-spec = tie.close (tie.spec (λ c κs. search needs) (λ c κs. search needs) returns (λ c κs. search needs) returns-2)

@@ -4,48 +4,6 @@ use Rattle.sender.specs.Silences.{silentIn}
 use Rattle.sender.proofs.sender.Sender.silence_in_phase.Statement.{statement}
 use Rattle.sender.proofs.sender.Sender.silence_in_phase.Tie as tie
 
-enum-told : tie.Need-enum-told
-enum-told c = search needs
-
-unheard-requires : tie.Need-unheard-requires
-unheard-requires c κs = search needs
-
-enum-told-2 : tie.Need-enum-told-2
-enum-told-2 c = search needs
-
-unheard-requires-2 : tie.Need-unheard-requires-2
-unheard-requires-2 c κs = search needs
-
-enum-told-3 : tie.Need-enum-told-3
-enum-told-3 c = search needs
-
-unheard-requires-3 : tie.Need-unheard-requires-3
-unheard-requires-3 c κs = search needs
-
-enum-told-4 : tie.Need-enum-told-4
-enum-told-4 c = search needs
-
-unheard-requires-4 : tie.Need-unheard-requires-4
-unheard-requires-4 c κs = search needs
-
-enum-told-5 : tie.Need-enum-told-5
-enum-told-5 c = search needs
-
-unheard-requires-5 : tie.Need-unheard-requires-5
-unheard-requires-5 c κs = search needs
-
-enum-told-6 : tie.Need-enum-told-6
-enum-told-6 c = search needs
-
-to-requires : tie.Need-to-requires
-to-requires c κs = search needs
-
-enum-told-7 : tie.Need-enum-told-7
-enum-told-7 c = search needs
-
-to-requires-2 : tie.Need-to-requires-2
-to-requires-2 c κs = search needs
-
 returns : tie.Need-returns
 unfolding silentIn
 returns c = simp (c .before .enum-told .given .1, c .unheard .ensures)
@@ -78,24 +36,7 @@ pub silence-in-phase-spec : {M : Type 1} → statement M
 silence-in-phase-spec =
     tie.close
     (tie.spec
-    enum-told
-    unheard-requires
-    enum-told-2
-    unheard-requires-2
-    enum-told-3
-    unheard-requires-3
-    enum-told-4
-    unheard-requires-4
-    enum-told-5
-    unheard-requires-5
-    enum-told-6
-    to-requires
-    enum-told-7
-    to-requires-2
-    returns
-    returns-2
-    returns-3
-    returns-4
-    returns-5
-    returns-6
-    returns-7)
+    (λ c. search needs) (λ c κs. search needs) (λ c. search needs) (λ c κs. search needs) (λ c. search needs)
+    (λ c κs. search needs) (λ c. search needs) (λ c κs. search needs) (λ c. search needs) (λ c κs. search needs)
+    (λ c. search needs) (λ c κs. search needs) (λ c. search needs) (λ c κs. search needs) returns returns-2 returns-3 returns-4
+    returns-5 returns-6 returns-7)

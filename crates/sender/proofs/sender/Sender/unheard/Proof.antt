@@ -5,22 +5,13 @@ use Rattle.sender.specs.Silences.{unheard}
 use Rattle.sender.proofs.sender.Sender.unheard.Statement.{statement}
 use Rattle.sender.proofs.sender.Sender.unheard.Tie as tie
 
-again-requires : tie.Need-again-requires
-again-requires c κs = search needs
-
-to-requires : tie.Need-to-requires
-to-requires c κs = search needs
-
 returns : tie.Need-returns
 unfolding unheard
 returns c = simp (lt-ltb _ _ (c .before .before .if1 .taken), c .before .again .ensures, c .to .ensures)
-
-leg-over-requires : tie.Need-leg-over-requires
-leg-over-requires c κs = search needs
 
 returns-2 : tie.Need-returns-2
 unfolding unheard
 returns-2 c = simp (le-ltb _ _ (c .before .if1 .left), c .leg-over .ensures)
 
 pub unheard-spec : {M : Type 1} → statement M
-unheard-spec = tie.close (tie.spec again-requires to-requires returns leg-over-requires returns-2)
+unheard-spec = tie.close (tie.spec (λ c κs. search needs) (λ c κs. search needs) returns (λ c κs. search needs) returns-2)

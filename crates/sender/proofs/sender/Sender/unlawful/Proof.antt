@@ -9,15 +9,9 @@ use Rattle.sender.specs.Lawful.{unlawful}
 use Rattle.sender.proofs.sender.Sender.unlawful.Statement.{statement}
 use Rattle.sender.proofs.sender.Sender.unlawful.Tie as tie
 
-bad-image-requires : tie.Need-bad-image-requires
-bad-image-requires c κs = search needs
-
 returns : tie.Need-returns
 unfolding unlawful
 returns c = simp (← c .before .bad-image .ensures, c .if1 .taken)
-
-bad-counts-requires : tie.Need-bad-counts-requires
-bad-counts-requires c κs = search needs
 
 returns-2 : tie.Need-returns-2
 unfolding unlawful
@@ -33,12 +27,4 @@ unfolding unlawful
 returns-3 c = simp (← c .before .before .before .before .bad-image .ensures, c .before .before .before .if1 .left, ← c .before .before .bad-counts .ensures, c .before .if2 .left, ← c .bad-place .ensures)
 
 pub unlawful-spec : {M : Type 1} → statement M
-unlawful-spec =
-    tie.close
-    (tie.spec
-    bad-image-requires
-    returns
-    bad-counts-requires
-    returns-2
-    bad-place-requires
-    returns-3)
+unlawful-spec = tie.close (tie.spec (λ c κs. search needs) returns (λ c κs. search needs) returns-2 bad-place-requires returns-3)

@@ -4,9 +4,6 @@ use borrow.Author.Tests.{eq-eqb, ne-eqb}
 use Rattle.sender.proofs.sender.Sender.wrong_fc.Statement.{statement}
 use Rattle.sender.proofs.sender.Sender.wrong_fc.Tie as tie
 
-other-channel-requires : tie.Need-other-channel-requires
-other-channel-requires c κs = search needs
-
 returns : tie.Need-returns
 returns c = simp (← c .before .other-channel .ensures, c .if1 .taken)
 
@@ -17,4 +14,4 @@ returns-3 : tie.Need-returns-3
 returns-3 c = simp (← c .before .before .before .before .before .other-channel .ensures, c .before .before .before .before .if1 .left, ne-eqb _ _ (c .before .if2 .left))
 
 pub wrong-fc-spec : {M : Type 1} → statement M
-wrong-fc-spec = tie.close (tie.spec other-channel-requires returns returns-2 returns-3)
+wrong-fc-spec = tie.close (tie.spec (λ c κs. search needs) returns returns-2 returns-3)

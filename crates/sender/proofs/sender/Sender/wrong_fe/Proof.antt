@@ -4,9 +4,6 @@ use borrow.Author.Tests.{le-ltb, lt-ltb}
 use Rattle.sender.proofs.sender.Sender.wrong_fe.Statement.{statement}
 use Rattle.sender.proofs.sender.Sender.wrong_fe.Tie as tie
 
-other-channel-requires : tie.Need-other-channel-requires
-other-channel-requires c κs = search needs
-
 returns : tie.Need-returns
 returns c = simp (← c .before .other-channel .ensures, c .if1 .taken)
 
@@ -17,4 +14,4 @@ returns-3 : tie.Need-returns-3
 returns-3 c = simp (← c .before .before .before .before .other-channel .ensures, c .before .before .before .if1 .left, le-ltb _ _ (c .before .if2 .left))
 
 pub wrong-fe-spec : {M : Type 1} → statement M
-wrong-fe-spec = tie.close (tie.spec other-channel-requires returns returns-2 returns-3)
+wrong-fe-spec = tie.close (tie.spec (λ c κs. search needs) returns returns-2 returns-3)

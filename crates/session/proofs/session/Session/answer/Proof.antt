@@ -6,20 +6,11 @@ use Rattle.session.specs.Answering.{answered, areaAfter}
 use Rattle.session.proofs.session.Session.answer.Statement.{statement}
 use Rattle.session.proofs.session.Session.answer.Tie as tie
 
-unlawful-requires : tie.Need-unlawful-requires
-unlawful-requires c κs = search needs
-
-unchanged-requires : tie.Need-unchanged-requires
-unchanged-requires c κs = search needs
-
 returns : tie.Need-returns
 unfolding answered areaAfter
 returns c =
     let bad = sym (c .before .before .unlawful .ensures) ∙ c .before .if1 .taken in
     (rw bad (c .unchanged .ensures), rw bad)
-
-unchanged-requires-2 : tie.Need-unchanged-requires-2
-unchanged-requires-2 c κs = search needs
 
 returns-2 : tie.Need-returns-2
 unfolding answered areaAfter
@@ -30,9 +21,6 @@ returns-2 c =
 
 judge-requires : tie.Need-judge-requires
 judge-requires c κs = (sym (c .before .before .before .before .unlawful .ensures) ∙ c .before .before .before .if1 .left, c .before .if2 .left)
-
-same-length : tie.Need-same-length
-same-length c = search needs
 
 returns-3 : tie.Need-returns-3
 unfolding answered areaAfter
@@ -45,11 +33,5 @@ pub answer-spec : {M : Type 1} → statement M
 answer-spec =
     tie.close
     (tie.spec
-    unlawful-requires
-    unchanged-requires
-    returns
-    unchanged-requires-2
-    returns-2
-    judge-requires
-    same-length
+    (λ c κs. search needs) (λ c κs. search needs) returns (λ c κs. search needs) returns-2 judge-requires (λ c. search needs)
     returns-3)

@@ -5,27 +5,6 @@ use Rattle.session.specs.Answering.{judged, judgedArea}
 use Rattle.session.proofs.session.Session.judge.Statement.{statement}
 use Rattle.session.proofs.session.Session.judge.Tie as tie
 
-header-of-requires : tie.Need-header-of-requires
-header-of-requires c κs = search needs
-
-enum-told : tie.Need-enum-told
-enum-told c = search needs
-
-unchanged-requires : tie.Need-unchanged-requires
-unchanged-requires c κs = search needs
-
-enum-told-2 : tie.Need-enum-told-2
-enum-told-2 c = search needs
-
-unchanged-requires-2 : tie.Need-unchanged-requires-2
-unchanged-requires-2 c κs = search needs
-
-enum-told-3 : tie.Need-enum-told-3
-enum-told-3 c = search needs
-
-route-requires : tie.Need-route-requires
-route-requires c κs = search needs
-
 returns : tie.Need-returns
 unfolding judged judgedArea
 returns c =
@@ -38,9 +17,6 @@ returns-2 c =
     let h = sym (c .before .before .before .header-of .ensures) ∙ c .before .enum-told2 .given .1 in
     (rw h (c .unchanged2 .ensures), rw h)
 
-same-length : tie.Need-same-length
-same-length c = search needs
-
 returns-3 : tie.Need-returns-3
 unfolding judged judgedArea
 returns-3 c =
@@ -51,14 +27,5 @@ pub judge-spec : {M : Type 1} → statement M
 judge-spec =
     tie.close
     (tie.spec
-    header-of-requires
-    enum-told
-    unchanged-requires
-    enum-told-2
-    unchanged-requires-2
-    enum-told-3
-    route-requires
-    returns
-    returns-2
-    same-length
-    returns-3)
+    (λ c κs. search needs) (λ c. search needs) (λ c κs. search needs) (λ c. search needs) (λ c κs. search needs)
+    (λ c. search needs) (λ c κs. search needs) returns returns-2 (λ c. search needs) returns-3)

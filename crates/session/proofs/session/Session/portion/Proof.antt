@@ -7,18 +7,9 @@ use Rattle.session.proofs.Lawfuls.{lawful-sound}
 use Rattle.session.proofs.session.Session.portion.Statement.{statement}
 use Rattle.session.proofs.session.Session.portion.Tie as tie
 
-unlawful-requires : tie.Need-unlawful-requires
-unlawful-requires c κs = search needs
-
-refused-requires : tie.Need-refused-requires
-refused-requires c κs = search needs
-
 returns : tie.Need-returns
 unfolding checked
 returns c = simp (← c .before .before .unlawful .ensures, c .before .if1 .taken, c .refused .ensures)
-
-refused-requires-2 : tie.Need-refused-requires-2
-refused-requires-2 c κs = search needs
 
 returns-2 : tie.Need-returns-2
 unfolding checked
@@ -28,15 +19,9 @@ portion-requires : tie.Need-portion-requires
 portion-requires c κs =
     (lawful-sound _ _ (sym (c .before .before .before .before .before .unlawful .ensures) ∙ c .before .before .before .before .if1 .left) (c .before .before .if2 .left), c .if3 .taken)
 
-portion-requires-2 : tie.Need-portion-requires-2
-portion-requires-2 c κs = search needs
-
 returns-3 : tie.Need-returns-3
 unfolding checked
 returns-3 c = simp (← c .before .before .before .before .before .before .before .unlawful .ensures, c .before .before .before .before .before .before .if1 .left, eq-eqb _ _ (c .before .before .before .before .if2 .left), c .before .before .if3 .taken, c .before .portion .ensures, c .portion2 .ensures)
-
-refused-requires-3 : tie.Need-refused-requires-3
-refused-requires-3 c κs = search needs
 
 returns-4 : tie.Need-returns-4
 unfolding checked
@@ -46,13 +31,5 @@ pub portion-spec : {M : Type 1} → statement M
 portion-spec =
     tie.close
     (tie.spec
-    unlawful-requires
-    refused-requires
-    returns
-    refused-requires-2
-    returns-2
-    portion-requires
-    portion-requires-2
-    returns-3
-    refused-requires-3
-    returns-4)
+    (λ c κs. search needs) (λ c κs. search needs) returns (λ c κs. search needs) returns-2 portion-requires (λ c κs. search needs)
+    returns-3 (λ c κs. search needs) returns-4)

@@ -20,29 +20,8 @@ returns : tie.Need-returns
 unfolding reportSize reportRoom
 returns c = let many = lt-ltb _ _ (c .if1 .taken) in record { gives = rw many; leaves = rw many }
 
-row-of-requires : tie.Need-row-of-requires
-row-of-requires c κs = search needs
-
-report-data-requires : tie.Need-report-data-requires
-report-data-requires c κs = search needs
-
-mul-n : tie.Need-mul-n
-mul-n c = search needs
-
-add-n : tie.Need-add-n
-add-n c = search needs
-
-array-share-prefix-d : tie.Need-array-share-prefix-d
-array-share-prefix-d c = search needs
-
 slice-aggregate-write : tie.Need-slice-aggregate-write
 slice-aggregate-write c = sym (length-take-le _ _ (omega arith))
-
-write-requires : tie.Need-write-requires
-write-requires c κs = search needs
-
-same-length : tie.Need-same-length
-same-length c = search needs
 
 returns-2 : tie.Need-returns-2
 returns-2 c =
@@ -63,13 +42,5 @@ pub report-spec : {M : Type 1} → statement M
 report-spec =
     tie.close
     (tie.spec
-    returns
-    row-of-requires
-    report-data-requires
-    mul-n
-    add-n
-    array-share-prefix-d
-    slice-aggregate-write
-    write-requires
-    same-length
-    returns-2)
+    returns (λ c κs. search needs) (λ c κs. search needs) (λ c. search needs) (λ c. search needs) (λ c. search needs)
+    slice-aggregate-write (λ c κs. search needs) (λ c. search needs) returns-2)

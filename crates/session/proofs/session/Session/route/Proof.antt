@@ -7,18 +7,12 @@ use Rattle.session.proofs.Lawfuls.{lawful-sound, lawful-count}
 use Rattle.session.proofs.session.Session.route.Statement.{statement}
 use Rattle.session.proofs.session.Session.route.Tie as tie
 
-unchanged-requires : tie.Need-unchanged-requires
-unchanged-requires c κs = search needs
-
 returns : tie.Need-returns
 unfolding routed routedArea
 returns c = let is = eq-eqb _ _ (c .before .if1 .taken) in (rw is (c .unchanged .ensures), rw is)
 
 place-for-requires : tie.Need-place-for-requires
 place-for-requires c κs = lawful-count _ (c .before .before .before .pre .0)
-
-unchanged-requires-2 : tie.Need-unchanged-requires-2
-unchanged-requires-2 c κs = search needs
 
 returns-2 : tie.Need-returns-2
 unfolding routed routedArea
@@ -27,9 +21,6 @@ returns-2 c =
     let place = c .before .before .before .place-for .ensures .0 in
     let unlisted = le-ltb _ _ (c .before .if2 .taken) in
     (simp (not-f9, ← place, unlisted, c .unchanged2 .ensures), simp (not-f9, ← place, unlisted))
-
-unchanged-requires-3 : tie.Need-unchanged-requires-3
-unchanged-requires-3 c κs = search needs
 
 returns-3 : tie.Need-returns-3
 unfolding routed routedArea
@@ -46,12 +37,6 @@ board-at-requires c κs = omega (arith, lawful-count _ (c .before .before .befor
 respond-requires : tie.Need-respond-requires
 respond-requires c κs = lawful-sound _ _ (c .before .before .before .before .before .before .before .before .before .before .pre .0) (c .before .before .before .before .before .before .before .before .before .before .pre .1)
 
-stepped-requires : tie.Need-stepped-requires
-stepped-requires c κs = search needs
-
-same-length : tie.Need-same-length
-same-length c = search needs
-
 returns-4 : tie.Need-returns-4
 unfolding routed routedArea
 returns-4 c =
@@ -67,15 +52,5 @@ pub route-spec : {M : Type 1} → statement M
 route-spec =
     tie.close
     (tie.spec
-    unchanged-requires
-    returns
-    place-for-requires
-    unchanged-requires-2
-    returns-2
-    unchanged-requires-3
-    returns-3
-    board-at-requires
-    respond-requires
-    stepped-requires
-    same-length
-    returns-4)
+    (λ c κs. search needs) returns place-for-requires (λ c κs. search needs) returns-2 (λ c κs. search needs) returns-3
+    board-at-requires respond-requires (λ c κs. search needs) (λ c. search needs) returns-4)

@@ -6,36 +6,21 @@ use Rattle.session.proofs.Lawfuls.{list-fits}
 use Rattle.session.proofs.session.Session.unlawful.Statement.{statement}
 use Rattle.session.proofs.session.Session.unlawful.Tie as tie
 
-bad-list-requires : tie.Need-bad-list-requires
-bad-list-requires c κs = search needs
-
 returns : tie.Need-returns
 unfolding unlawful
 returns c = simp (← c .before .bad-list .ensures, c .if1 .taken)
-
-bad-area-requires : tie.Need-bad-area-requires
-bad-area-requires c κs = search needs
 
 returns-2 : tie.Need-returns-2
 unfolding unlawful
 returns-2 c = simp (← c .before .before .before .bad-list .ensures, c .before .before .if1 .left, ← c .before .bad-area .ensures, c .if2 .taken)
 
-bad-lengths-requires : tie.Need-bad-lengths-requires
-bad-lengths-requires c κs = search needs
-
 returns-3 : tie.Need-returns-3
 unfolding unlawful
 returns-3 c = simp (← c .before .before .before .before .before .bad-list .ensures, c .before .before .before .before .if1 .left, ← c .before .before .before .bad-area .ensures, c .before .before .if2 .left, ← c .before .bad-lengths .ensures, c .if3 .taken)
 
-bad-last-requires : tie.Need-bad-last-requires
-bad-last-requires c κs = search needs
-
 returns-4 : tie.Need-returns-4
 unfolding unlawful
 returns-4 c = simp (← c .before .before .before .before .before .before .before .bad-list .ensures, c .before .before .before .before .before .before .if1 .left, ← c .before .before .before .before .before .bad-area .ensures, c .before .before .before .before .if2 .left, ← c .before .before .before .bad-lengths .ensures, c .before .before .if3 .left, ← c .before .bad-last .ensures, c .if4 .taken)
-
-bad-check-requires : tie.Need-bad-check-requires
-bad-check-requires c κs = search needs
 
 returns-5 : tie.Need-returns-5
 unfolding unlawful
@@ -52,15 +37,5 @@ pub unlawful-spec : {M : Type 1} → statement M
 unlawful-spec =
     tie.close
     (tie.spec
-    bad-list-requires
-    returns
-    bad-area-requires
-    returns-2
-    bad-lengths-requires
-    returns-3
-    bad-last-requires
-    returns-4
-    bad-check-requires
-    returns-5
-    bad-session-fields-requires
-    returns-6)
+    (λ c κs. search needs) returns (λ c κs. search needs) returns-2 (λ c κs. search needs) returns-3 (λ c κs. search needs)
+    returns-4 (λ c κs. search needs) returns-5 bad-session-fields-requires returns-6)

@@ -5,12 +5,6 @@ use native.Mathlib.Omega.{arith}
 use Rattle.text.proofs.output.Output.text.Statement.{statement}
 use Rattle.text.proofs.output.Output.text.Tie as tie
 
-flush-requires : tie.Need-flush-requires
-flush-requires c κs = search needs
-
-write-requires : tie.Need-write-requires
-write-requires c κs = search needs
-
 returns : tie.Need-returns
 returns c =
     let long = lt-ltb _ _ (c .before .before .before .if1 .taken) in
@@ -20,15 +14,6 @@ returns c =
       fails = λ e. c .write .ensures (c .before .flush .ensures .fails e);
       unwritten = λ h. absurd (omega arith);
     }
-
-with-room-requires : tie.Need-with-room-requires
-with-room-requires c κs = search needs
-
-put-requires : tie.Need-put-requires
-put-requires c κs = search needs
-
-add-t14 : tie.Need-add-t14
-add-t14 c = search needs
 
 returns-2 : tie.Need-returns-2
 returns-2 c =
@@ -45,10 +30,5 @@ pub text-spec : {M : Type 1} → statement M
 text-spec =
     tie.close
     (tie.spec
-    flush-requires
-    write-requires
-    returns
-    with-room-requires
-    put-requires
-    add-t14
+    (λ c κs. search needs) (λ c κs. search needs) returns (λ c κs. search needs) (λ c κs. search needs) (λ c. search needs)
     returns-2)

@@ -8,12 +8,6 @@ use Rattle.text.specs.Outputs.{bufferSize}
 use Rattle.text.proofs.output.Output.with_room.Statement.{statement}
 use Rattle.text.proofs.output.Output.with_room.Tie as tie
 
-sub-if1 : tie.Need-sub-if1
-sub-if1 c = search needs
-
-flush-requires : tie.Need-flush-requires
-flush-requires c κs = search needs
-
 returns : tie.Need-returns
 returns c =
     let a = c .before .before .before .args in
@@ -33,4 +27,4 @@ returns-2 c =
     record { waits = simp (le-ltb _ _ fits); fits = fits; fails = λ e. e; unwritten = λ _. refl }
 
 pub with-room-spec : {M : Type 1} → statement M
-with-room-spec = tie.close (tie.spec sub-if1 flush-requires returns returns-2)
+with-room-spec = tie.close (tie.spec (λ c. search needs) (λ c κs. search needs) returns returns-2)

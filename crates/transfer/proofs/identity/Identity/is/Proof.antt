@@ -17,12 +17,6 @@ returns-3 : tie.Need-returns-3
 unfolding sameIdentity
 returns-3 c = simp (eq-eqb _ _ (c .before .before .before .before .before .before .if1 .left), eq-eqb _ _ (c .before .before .before .if2 .left), ne-eqb _ _ (c .if3 .taken))
 
-same3-requires : tie.Need-same3-requires
-same3-requires c κs = search needs
-
-same16-requires : tie.Need-same16-requires
-same16-requires c κs = search needs
-
 returns-4 : tie.Need-returns-4
 unfolding sameIdentity
 returns-4 c = simp (eq-eqb _ _ (c .before .before .before .before .before .before .before .before .before .before .before .before .before .if1 .left), eq-eqb _ _ (c .before .before .before .before .before .before .before .before .before .before .if2 .left), eq-eqb _ _ (c .before .before .before .before .before .before .before .if3 .left), ← c .before .before .before .before .same3 .ensures, c .before .before .before .if4 .taken, ← c .same16 .ensures)
@@ -32,6 +26,4 @@ unfolding sameIdentity
 returns-5 c = simp (eq-eqb _ _ (c .before .before .before .before .before .before .before .before .before .before .if1 .left), eq-eqb _ _ (c .before .before .before .before .before .before .before .if2 .left), eq-eqb _ _ (c .before .before .before .before .if3 .left), ← c .before .same3 .ensures, c .if4 .left)
 
 pub is-spec : {M : Type 1} → statement M
-is-spec =
-    tie.close
-    (tie.spec returns returns-2 returns-3 same3-requires same16-requires returns-4 returns-5)
+is-spec = tie.close (tie.spec returns returns-2 returns-3 (λ c κs. search needs) (λ c κs. search needs) returns-4 returns-5)

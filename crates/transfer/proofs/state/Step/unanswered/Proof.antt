@@ -3,11 +3,8 @@ use borrow.Author.Needs.{needs}
 use Rattle.transfer.proofs.state.Step.unanswered.Statement.{statement}
 use Rattle.transfer.proofs.state.Step.unanswered.Tie as tie
 
-none-requires : tie.Need-none-requires
-none-requires c κs = search needs
-
 returns : tie.Need-returns
 returns c = simp (c .none .ensures)
 
 pub unanswered-spec : {M : Type 1} → statement M
-unanswered-spec = tie.close (tie.spec none-requires returns)
+unanswered-spec = tie.close (tie.spec (λ c κs. search needs) returns)

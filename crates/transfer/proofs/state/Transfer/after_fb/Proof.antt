@@ -7,23 +7,11 @@ use Rattle.transfer.specs.FB.{afterFB}
 use Rattle.transfer.proofs.state.Transfer.after_fb.Statement.{statement}
 use Rattle.transfer.proofs.state.Transfer.after_fb.Tie as tie
 
-told-requires : tie.Need-told-requires
-told-requires c κs = search needs
-
-is-requires : tie.Need-is-requires
-is-requires c κs = search needs
-
-with-phase-requires : tie.Need-with-phase-requires
-with-phase-requires c κs = search needs
-
 returns : tie.Need-returns
 unfolding afterFB
 returns c =
     let stored = ap (λ (t : Transfer). t .stored) (c .with-phase .ensures) in
     (simp (← c .before .before .before .before .told .ensures, ← c .before .before .is .ensures, c .before .if1 .taken, c .with-phase .ensures), omega arith)
-
-with-progress-requires : tie.Need-with-progress-requires
-with-progress-requires c κs = search needs
 
 returns-2 : tie.Need-returns-2
 unfolding afterFB
@@ -35,9 +23,4 @@ pub after-fb-spec : {M : Type 1} → statement M
 after-fb-spec =
     tie.close
     (tie.spec
-    told-requires
-    is-requires
-    with-phase-requires
-    returns
-    with-progress-requires
-    returns-2)
+    (λ c κs. search needs) (λ c κs. search needs) (λ c κs. search needs) returns (λ c κs. search needs) returns-2)

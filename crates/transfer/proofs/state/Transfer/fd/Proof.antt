@@ -17,15 +17,6 @@ use Rattle.transfer.proofs.state.Transfer.fd.Tie as tie
 is-taken : (t : Transfer) (r : RequestFD) (p area : List ℕ) (state : ℕ) (b : Bool) → state ≡ stateFD t r p area → b ≡ (eqb state 0 && eqb (r .number) (t .next)) → takes t r p area ≡ b
 is-taken t r p area state b e f = sym (takes-next t r p area) ∙ ap (λ (n : ℕ). eqb n 0 && eqb (r .number) (t .next)) (sym e) ∙ sym f
 
-packet-state-requires : tie.Need-packet-state-requires
-packet-state-requires c κs = search needs
-
-state-requires : tie.Need-state-requires
-state-requires c κs = search needs
-
-stores-requires : tie.Need-stores-requires
-stores-requires c κs = search needs
-
 write-at-requires : tie.Need-write-at-requires
 write-at-requires c κs =
     let a = c .before .before .before .before .before .before .before .before .args in
@@ -38,12 +29,6 @@ after-packet-requires c κs =
     let takes-it = is-taken (a .self) (a .r) (a .packet .now) (a .area .now) _ _ (c .before .before .before .before .before .before .before .packet-state .ensures) (c .before .before .before .before .before .stores .ensures) ∙ c .before .before .before .before .if1 .taken in
     (taken (a .self) (a .r) (a .packet .now) (a .area .now) takes-it .fits, c .before .before .before .before .before .before .before .before .before .before .before .pre .number-fits)
 
-replied-requires : tie.Need-replied-requires
-replied-requires c κs = search needs
-
-same-length : tie.Need-same-length
-same-length c = search needs
-
 returns : tie.Need-returns
 unfolding answerFD areaFD
 returns c =
@@ -52,12 +37,6 @@ returns c =
       simp (takes-it, ← c .before .before .before .before .before .before .before .before .before .packet-state .ensures, c .before .before .before .before .before .before .before .before .state .ensures, c .before .after-packet .ensures, c .replied .ensures),
       simp (takes-it, c .before .before .before .before .write-at .ensures),
     )
-
-replied-requires-2 : tie.Need-replied-requires-2
-replied-requires-2 c κs = search needs
-
-same-length-2 : tie.Need-same-length-2
-same-length-2 c = search needs
 
 returns-2 : tie.Need-returns-2
 unfolding answerFD areaFD
@@ -72,14 +51,5 @@ pub fd-spec : {M : Type 1} → statement M
 fd-spec =
     tie.close
     (tie.spec
-    packet-state-requires
-    state-requires
-    stores-requires
-    write-at-requires
-    after-packet-requires
-    replied-requires
-    same-length
-    returns
-    replied-requires-2
-    same-length-2
-    returns-2)
+    (λ c κs. search needs) (λ c κs. search needs) (λ c κs. search needs) write-at-requires after-packet-requires
+    (λ c κs. search needs) (λ c. search needs) returns (λ c κs. search needs) (λ c. search needs) returns-2)

@@ -7,20 +7,8 @@ use Rattle.transfer.specs.FB.{grantFB}
 use Rattle.transfer.proofs.state.Transfer.grant_fb.Statement.{statement}
 use Rattle.transfer.proofs.state.Transfer.grant_fb.Tie as tie
 
-after-fb-requires : tie.Need-after-fb-requires
-after-fb-requires c κs = search needs
-
 slice-aggregate-checksum : tie.Need-slice-aggregate-checksum
 slice-aggregate-checksum c = sym (length-take-le _ _ (omega arith))
-
-checksum-requires : tie.Need-checksum-requires
-checksum-requires c κs = search needs
-
-fb-requires : tie.Need-fb-requires
-fb-requires c κs = search needs
-
-replied-requires : tie.Need-replied-requires
-replied-requires c κs = search needs
 
 returns : tie.Need-returns
 unfolding grantFB
@@ -30,9 +18,4 @@ pub grant-fb-spec : {M : Type 1} → statement M
 grant-fb-spec =
     tie.close
     (tie.spec
-    after-fb-requires
-    slice-aggregate-checksum
-    checksum-requires
-    fb-requires
-    replied-requires
-    returns)
+    (λ c κs. search needs) slice-aggregate-checksum (λ c κs. search needs) (λ c κs. search needs) (λ c κs. search needs) returns)

@@ -3,14 +3,8 @@ use borrow.Author.Needs.{needs}
 use Rattle.transfer.proofs.state.Transfer.none.Statement.{statement}
 use Rattle.transfer.proofs.state.Transfer.none.Tie as tie
 
-none-requires : tie.Need-none-requires
-none-requires c κs = search needs
-
-none-requires-2 : tie.Need-none-requires-2
-none-requires-2 c κs = search needs
-
 returns : tie.Need-returns
 returns c = simp (c .before .none .ensures, c .none2 .ensures)
 
 pub none-spec : {M : Type 1} → statement M
-none-spec = tie.close (tie.spec none-requires none-requires-2 returns)
+none-spec = tie.close (tie.spec (λ c κs. search needs) (λ c κs. search needs) returns)

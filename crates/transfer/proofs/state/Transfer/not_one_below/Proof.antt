@@ -12,13 +12,10 @@ use Rattle.transfer.proofs.state.Transfer.not_one_below.Tie as tie
 returns : tie.Need-returns
 returns c = let none = c .if1 .taken in simp (ne-eqb (c .before .before .args .r .number + 1) (c .before .before .args .self .next) (λ e. omega arith))
 
-sub-result : tie.Need-sub-result
-sub-result c = search needs
-
 returns-2 : tie.Need-returns-2
 returns-2 c =
     let o = c .before .before .before .before in
     ap not (one-below (o .args .r .number) (o .args .self .next) (c .before .before .if1 .left))
 
 pub not-one-below-spec : {M : Type 1} → statement M
-not-one-below-spec = tie.close (tie.spec returns sub-result returns-2)
+not-one-below-spec = tie.close (tie.spec returns (λ c. search needs) returns-2)

@@ -3,18 +3,8 @@ use borrow.Author.Needs.{needs}
 use Rattle.transfer.proofs.state.Transfer.not_receiving_here.Statement.{statement}
 use Rattle.transfer.proofs.state.Transfer.not_receiving_here.Tie as tie
 
-is-receiving-requires : tie.Need-is-receiving-requires
-is-receiving-requires c κs = search needs
-
-other-channel-requires : tie.Need-other-channel-requires
-other-channel-requires c κs = search needs
-
 returns : tie.Need-returns
 returns c = simp (← c .before .before .is-receiving .ensures, c .before .if1 .taken, ← c .other-channel .ensures)
 
-returns-2 : tie.Need-returns-2
-returns-2 c = search needs
-
 pub not-receiving-here-spec : {M : Type 1} → statement M
-not-receiving-here-spec =
-    tie.close (tie.spec is-receiving-requires other-channel-requires returns returns-2)
+not-receiving-here-spec = tie.close (tie.spec (λ c κs. search needs) (λ c κs. search needs) returns (λ c. search needs))

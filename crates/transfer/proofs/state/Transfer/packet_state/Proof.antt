@@ -4,39 +4,21 @@ use Rattle.transfer.specs.FD.{stateFD}
 use Rattle.transfer.proofs.state.Transfer.packet_state.Statement.{statement}
 use Rattle.transfer.proofs.state.Transfer.packet_state.Tie as tie
 
-not-receiving-here-requires : tie.Need-not-receiving-here-requires
-not-receiving-here-requires c κs = search needs
-
 returns : tie.Need-returns
 unfolding stateFD
 returns c = simp (← c .before .not-receiving-here .ensures, c .if1 .taken)
-
-repeats-requires : tie.Need-repeats-requires
-repeats-requires c κs = search needs
-
-crc-state-requires : tie.Need-crc-state-requires
-crc-state-requires c κs = search needs
 
 returns-2 : tie.Need-returns-2
 unfolding stateFD
 returns-2 c = simp (← c .before .before .before .before .not-receiving-here .ensures, c .before .before .before .if1 .left, ← c .before .before .repeats .ensures, c .before .if2 .taken, ← c .crc-state .ensures)
 
-out-of-order-requires : tie.Need-out-of-order-requires
-out-of-order-requires c κs = search needs
-
 returns-3 : tie.Need-returns-3
 unfolding stateFD
 returns-3 c = simp (← c .before .before .before .before .before .not-receiving-here .ensures, c .before .before .before .before .if1 .left, ← c .before .before .before .repeats .ensures, c .before .before .if2 .left, ← c .before .out-of-order .ensures, c .if3 .taken)
 
-wrong-size-requires : tie.Need-wrong-size-requires
-wrong-size-requires c κs = search needs
-
 returns-4 : tie.Need-returns-4
 unfolding stateFD
 returns-4 c = simp (← c .before .before .before .before .before .before .before .not-receiving-here .ensures, c .before .before .before .before .before .before .if1 .left, ← c .before .before .before .before .before .repeats .ensures, c .before .before .before .before .if2 .left, ← c .before .before .before .out-of-order .ensures, c .before .before .if3 .left, ← c .before .wrong-size .ensures, c .if4 .taken)
-
-crc-state-requires-2 : tie.Need-crc-state-requires-2
-crc-state-requires-2 c κs = search needs
 
 returns-5 : tie.Need-returns-5
 unfolding stateFD
@@ -46,14 +28,5 @@ pub packet-state-spec : {M : Type 1} → statement M
 packet-state-spec =
     tie.close
     (tie.spec
-    not-receiving-here-requires
-    returns
-    repeats-requires
-    crc-state-requires
-    returns-2
-    out-of-order-requires
-    returns-3
-    wrong-size-requires
-    returns-4
-    crc-state-requires-2
-    returns-5)
+    (λ c κs. search needs) returns (λ c κs. search needs) (λ c κs. search needs) returns-2 (λ c κs. search needs) returns-3
+    (λ c κs. search needs) returns-4 (λ c κs. search needs) returns-5)

@@ -8,15 +8,6 @@ use Rattle.transfer.proofs.state.Transfer.portion.Tie as tie
 portion-size-requires : tie.Need-portion-size-requires
 portion-size-requires c κs = let h = c .before .pre .0 .check-fits (c .before .pre .1) in omega arith
 
-read-on-requires : tie.Need-read-on-requires
-read-on-requires c κs = search needs
-
-verdict-requires : tie.Need-verdict-requires
-verdict-requires c κs = search needs
-
-step-by-requires : tie.Need-step-by-requires
-step-by-requires c κs = search needs
-
 returns : tie.Need-returns
 unfolding portionOf
 returns c = simp (← c .before .before .before .before .portion-size .ensures .0, c .before .before .read-on .ensures, c .before .verdict .ensures, c .step-by .ensures)
@@ -24,4 +15,5 @@ returns c = simp (← c .before .before .before .before .portion-size .ensures .
 pub portion-spec : {M : Type 1} → statement M
 portion-spec =
     tie.close
-    (tie.spec portion-size-requires read-on-requires verdict-requires step-by-requires returns)
+    (tie.spec
+    portion-size-requires (λ c κs. search needs) (λ c κs. search needs) (λ c κs. search needs) returns)

@@ -5,9 +5,6 @@ use borrow.Author.Tests.{lt-ltb, le-ltb}
 use Rattle.transfer.proofs.state.Transfer.portion_size.Statement.{statement}
 use Rattle.transfer.proofs.state.Transfer.portion_size.Tie as tie
 
-sub-unread : tie.Need-sub-unread
-sub-unread c = search needs
-
 returns : tie.Need-returns
 returns c = (simp (lt-ltb _ _ (c .if1 .taken)), omega arith)
 
@@ -15,4 +12,4 @@ returns-2 : tie.Need-returns-2
 returns-2 c = (simp (le-ltb _ _ (c .if1 .left)), omega arith)
 
 pub portion-size-spec : {M : Type 1} → statement M
-portion-size-spec = tie.close (tie.spec sub-unread returns returns-2)
+portion-size-spec = tie.close (tie.spec (λ c. search needs) returns returns-2)

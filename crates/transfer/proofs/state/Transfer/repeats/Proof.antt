@@ -15,9 +15,6 @@ returns : tie.Need-returns
 unfolding repeats
 returns c = simp (eq-eqb _ _ (c .if1 .taken))
 
-not-one-below-requires : tie.Need-not-one-below-requires
-not-one-below-requires c κs = search needs
-
 returns-2 : tie.Need-returns-2
 unfolding repeats
 returns-2 c =
@@ -39,21 +36,6 @@ returns-4 c =
     let below : eqb (o .r .number + 1) (o .self .next) ≡ true = not-false _ (sym (c .before .before .before .before .before .before .not-one-below .ensures) ∙ c .before .before .before .before .before .if2 .left) in
     simp (ne-eqb _ _ (c .before .before .before .before .before .before .before .if1 .left), below, eq-eqb _ _ (c .before .before .if3 .left), ne-eqb _ _ (c .if4 .taken))
 
-sub-from : tie.Need-sub-from
-sub-from c = search needs
-
-sub-same : tie.Need-sub-same
-sub-same c = search needs
-
-part-same-start : tie.Need-part-same-start
-part-same-start c = search needs
-
-part-same-end : tie.Need-part-same-end
-part-same-end c = search needs
-
-same-requires : tie.Need-same-requires
-same-requires c κs = search needs
-
 returns-5 : tie.Need-returns-5
 unfolding repeats
 returns-5 c =
@@ -71,14 +53,5 @@ pub repeats-spec : {M : Type 1} → statement M
 repeats-spec =
     tie.close
     (tie.spec
-    returns
-    not-one-below-requires
-    returns-2
-    returns-3
-    returns-4
-    sub-from
-    sub-same
-    part-same-start
-    part-same-end
-    same-requires
-    returns-5)
+    returns (λ c κs. search needs) returns-2 returns-3 returns-4 (λ c. search needs) (λ c. search needs) (λ c. search needs)
+    (λ c. search needs) (λ c κs. search needs) returns-5)
