@@ -8,12 +8,13 @@ use borrow.Author.Tests.{le-ltb, lt-ltb, ltb-true}
 use lib.Dec.{ltb}
 use lib.ListN.{length, take, drop, length-take}
 use lib.Seq.{length-take-le, take-at}
-use Rattle.frames.specs.Frame.{maxData, frameSize, Frame, encode, frameAt}
+use Rattle.fronts.specs.Frame.{maxData, frameSize, Frame, encode, frameAt}
 use Rattle.frames.specs.Buffer.{wholeAt, writable, writtenSize, writtenRoom}
-use Rattle.frames.proofs.Writes.{encode-size, writable-fits}
+use Rattle.fronts.proofs.Sizes.{encode-size}
+use Rattle.frames.proofs.Writes.{writable-fits}
 use Rattle.frames.proofs.RoundTrips.{size-written, room-written, whole-written, frame-written}
 use Rattle.commands.specs.declared.table.Row.{Row}
-use Rattle.commands.specs.Table.{placeOf, rowAt}
+use Rattle.commands.specs.Table.{placeInTable, rowAt}
 use Rattle.commands.specs.Replies.{maxReply, replyFrame, hasReply, replySize, replyRoom}
 use Rattle.commands.proofs.Rows.{reply-short}
 
@@ -21,17 +22,17 @@ use Rattle.commands.proofs.Rows.{reply-short}
 abbrev pub byRow : Row → ℕ → List ℕ → Frame
 byRow r command d = record { version = r .«reply_version»; command = command; payload = take (r .«reply_length») d }
 
-pub by-row : (command : ℕ) (d : List ℕ) → replyFrame command d ≡ byRow (rowAt (placeOf command)) command d
+pub by-row : (command : ℕ) (d : List ℕ) → replyFrame command d ≡ byRow (rowAt (placeInTable command)) command d
 unfolding replyFrame
 by-row command d = refl
 
-pub no-reply : (command : ℕ) → rowAt (placeOf command) .«reply_length» ≡ 0 → hasReply command ≡ false
+pub no-reply : (command : ℕ) → rowAt (placeInTable command) .«reply_length» ≡ 0 → hasReply command ≡ false
 unfolding hasReply
-no-reply command e = le-ltb 0 (rowAt (placeOf command) .«reply_length») (omega arith)
+no-reply command e = le-ltb 0 (rowAt (placeInTable command) .«reply_length») (omega arith)
 
-pub some-reply : (command : ℕ) → (rowAt (placeOf command) .«reply_length» ≡ 0 → ⊥) → hasReply command ≡ true
+pub some-reply : (command : ℕ) → (rowAt (placeInTable command) .«reply_length» ≡ 0 → ⊥) → hasReply command ≡ true
 unfolding hasReply
-some-reply command n = lt-ltb 0 (rowAt (placeOf command) .«reply_length») (omega arith)
+some-reply command n = lt-ltb 0 (rowAt (placeInTable command) .«reply_length») (omega arith)
 
 -- without a reply nothing is written
 pub unreplied-size : (command : ℕ) (d room : List ℕ) → hasReply command ≡ false → replySize command d room ≡ 0
@@ -53,7 +54,7 @@ module _ (command : ℕ) (d room : List ℕ) (e : hasReply command ≡ true) whe
 
   payload-short : length (replyFrame command d .payload) ≤ maxReply
   unfolding replyFrame
-  payload-short = omega (arith, length-take (rowAt (placeOf command) .«reply_length») d, reply-short (placeOf command))
+  payload-short = omega (arith, length-take (rowAt (placeInTable command) .«reply_length») d, reply-short (placeInTable command))
 
   -- the room of a call is wide enough for every reply
   module _ (wide : 33 ≤ length room) where
@@ -67,9 +68,9 @@ module _ (command : ℕ) (d room : List ℕ) (e : hasReply command ≡ true) whe
     reply-some z = omega (arith, whole-size)
 
     -- 7 + L, L being the table's
-    pub reply-size : length d ≡ maxReply → replySize command d room ≡ frameSize (rowAt (placeOf command) .«reply_length»)
+    pub reply-size : length d ≡ maxReply → replySize command d room ≡ frameSize (rowAt (placeInTable command) .«reply_length»)
     unfolding replyFrame
-    reply-size size = whole-size ∙ ap frameSize (length-take-le (rowAt (placeOf command) .«reply_length») d (omega (arith, reply-short (placeOf command))))
+    reply-size size = whole-size ∙ ap frameSize (length-take-le (rowAt (placeInTable command) .«reply_length») d (omega (arith, reply-short (placeInTable command))))
 
     -- the reply stands at the front of the room, and the rest of the room stays
     pub reply-room : replyRoom command d room ≡ encode (replyFrame command d) ++ drop (replySize command d room) room

@@ -3,10 +3,10 @@ use mathlib.Core.Path.{_≡_, refl}
 use mathlib.Core.Bool.{true, false}
 use mathlib.Core.List.{List}
 use Prim.Native.Nat.{ℕ}
-use Rattle.frames.specs.Frame.{Frame}
-use Rattle.frames.specs.Finished.{padded}
-use Rattle.commands.specs.Search.{find}
-use Rattle.commands.specs.Table.{table, rowAt, placeOf}
+use Rattle.fronts.specs.Frame.{Frame}
+use Rattle.sequences.specs.Padding.{padded}
+use Rattle.sequences.specs.Search.{find}
+use Rattle.commands.specs.Table.{table, rowAt, placeInTable}
 use Rattle.commands.specs.Replies.{maxReply, replyFA, replyFB, replyFC, replyState, replyFrame, hasReply}
 
 abbrev pub frame : ℕ → ℕ → List ℕ → Frame
@@ -23,7 +23,7 @@ pub record ReplyFrames : Type 0 where
   pub f9 : hasReply 0xF9 ≡ false
 
 pub reply-frames : ReplyFrames
-unfolding replyFrame hasReply placeOf rowAt table find replyFA replyFB replyFC replyState
+unfolding replyFrame hasReply placeInTable rowAt table find replyFA replyFB replyFC replyState
 reply-frames =
     record {
       fa = λ channel flag version. refl;

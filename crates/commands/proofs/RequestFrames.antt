@@ -4,7 +4,7 @@ use mathlib.Core.List.{List, _++_}
 use Prim.Native.Nat.{ℕ, _+_, _≤_}
 use lib.ListN.{length}
 use Rattle.frames.specs.declared.finished.FinishedFrame.{FinishedFrame}
-use Rattle.frames.specs.Frame.{maxData}
+use Rattle.fronts.specs.Frame.{maxData}
 use Rattle.frames.specs.Finished.{finished, extended}
 use Rattle.frames.proofs.FinishedFrames.{extended-finished}
 use Rattle.commands.specs.RequestFrames.{requestFrame}

@@ -9,43 +9,28 @@ use borrow.Author.Tests.{eq-eqb, le-ltb}
 use lib.Dec.{ltb}
 use lib.ListN.{length, getD, take, drop, length-append}
 use lib.Seq.{take-at, drop-at, drop-drop, getD-drop, take-append-seam}
-use Rattle.frames.specs.Frame.{maxData, number16, encode}
-use Rattle.frames.specs.Numbers.{number32, bytes32}
-use Rattle.frames.specs.Finished.{zeros, padded, finished}
+use Rattle.fronts.specs.Frame.{maxData, encode}
+use Rattle.sequences.specs.Numbers.{number16, number32, bytes32, max16, max32}
+use Rattle.sequences.specs.Padding.{zeros, padded}
+use Rattle.frames.specs.Finished.{finished}
 use Rattle.frames.specs.Buffer.{dataAt, aloneAt, versionAt, commandAt}
 use Rattle.frames.proofs.FinishedFrames.{finished-version, finished-command, finished-length, finished-bytes}
 use Rattle.frames.proofs.OneFrames.{version-encoded, command-encoded, data-encoded, alone-encoded}
+use Rattle.sequences.proofs.Numbers.{of-bytes16, of-bytes32}
 use Rattle.commands.specs.declared.table.Header.the-variants.{Wrong, Right}
 use Rattle.commands.specs.declared.request.RequestFA.{RequestFA}
 use Rattle.commands.specs.declared.request.RequestFB.{RequestFB}
 use Rattle.commands.specs.declared.request.RequestFC.{RequestFC}
 use Rattle.commands.specs.declared.request.RequestFD.{RequestFD}
-use Rattle.commands.specs.Search.{find}
+use Rattle.sequences.specs.Search.{find}
 use Rattle.commands.specs.Limits.{maxPacket}
-use Rattle.commands.specs.Table.{table, rowAt, placeOf, headerOf}
+use Rattle.commands.specs.Table.{table, rowAt, placeInTable, headerOf}
 use Rattle.commands.specs.Requests.{channelOf, number32At, fieldAt, requestFA, requestFB, requestFC, requestFD, packetOf}
 use Rattle.commands.specs.RequestFrames.{byte, dataFA, namedFB, dataFB, dataFC, dataFD, dataFE, requestFrame}
 use Rattle.commands.specs.Replies.{maxReply, replyFA, replyFB, replyFC, replyState, replyFrame}
 use Rattle.commands.specs.ReplyFields.{isReply, fieldsFA, fieldsFB, fieldsFC, fieldsState}
-use Rattle.commands.specs.RoundTrips.{max16, max32, FitsFB, FitsFD, sent, headerIn, RequestsReadBack, replyBytes, RepliesReadBack}
+use Rattle.commands.specs.RoundTrips.{FitsFB, FitsFD, sent, headerIn, RequestsReadBack, replyBytes, RepliesReadBack}
 use Rattle.commands.proofs.ReplyFrames.{frame, reply-frames}
-
--- ---- numbers
-
-pub of-bytes16 : (x : ℕ) → x < max16 → number16 (x / 256 % 256) (x % 256) ≡ x
-of-bytes16 x h = omega arith
-
--- a number, its quotients by 256 and their remainders
-joined : (x q r s a b c : ℕ) → q * 256 + a ≡ x → r * 256 + b ≡ q → s * 256 + c ≡ r → number32 s c b a ≡ x
-joined x q r s a b c e1 e2 e3 = omega arith
-
-pub of-bytes32 : (x : ℕ) → x < max32 → number32 (x / 16777216 % 256) (x / 65536 % 256) (x / 256 % 256) (x % 256) ≡ x
-of-bytes32 x h =
-    let small : x / 16777216 < 256 = omega arith in
-    ap (λ (s : ℕ). number32 s (x / 65536 % 256) (x / 256 % 256) (x % 256)) (mod-eq-of-lt small)
-    ∙ joined x (x / 256) (x / 65536) (x / 16777216) (x % 256) (x / 256 % 256) (x / 65536 % 256) (div-add-mod' x 256)
-    (ap (λ (q : ℕ). q * 256 + x / 256 % 256) (sym (div-div-eq-div-mul x 256 256)) ∙ div-add-mod' (x / 256) 256)
-    (ap (λ (q : ℕ). q * 256 + x / 65536 % 256) (sym (div-div-eq-div-mul x 65536 256)) ∙ div-add-mod' (x / 65536) 256)
 
 -- ---- fields in their places
 
@@ -169,22 +154,22 @@ module _ (r : RequestFB) (fits : FitsFB r) where
 
 -- ---- the table's version byte and L
 
-header-sent : (command : ℕ) (d : List ℕ) → headerIn (sent command d) ≡ headerOf (rowAt (placeOf command) .version) command (length d)
+header-sent : (command : ℕ) (d : List ℕ) → headerIn (sent command d) ≡ headerOf (rowAt (placeInTable command) .version) command (length d)
 unfolding requestFrame
 header-sent command d =
     let f = requestFrame command d in
     ap₂ (λ (v c : ℕ). headerOf v c (finished f .length)) (finished-version f) (finished-command f)
-    ∙ ap (headerOf (rowAt (placeOf command) .version) command) (finished-length f)
+    ∙ ap (headerOf (rowAt (placeInTable command) .version) command) (finished-length f)
 
 fd-header : (r : RequestFD) (p : List ℕ) → length p ≤ maxPacket → headerOf 0x10 0xFD (length (dataFD r p)) ≡ Right
-unfolding headerOf placeOf rowAt table find dataFD
+unfolding headerOf placeInTable rowAt table find dataFD
 fd-header r p small =
     let least : ltb (length (dataFD r p)) 7 ≡ false = le-ltb (length (dataFD r p)) 7 (omega arith) in
     let most : ltb maxData (length (dataFD r p)) ≡ false = le-ltb maxData (length (dataFD r p)) (omega arith) in
     ap₂ (λ (a b : Bool). cond (a || b) Wrong Right) least most
 
 pub requests-read-back : RequestsReadBack
-unfolding headerOf placeOf rowAt table find dataFA dataFC dataFE
+unfolding headerOf placeInTable rowAt table find dataFA dataFC dataFE
 requests-read-back =
     record {
       fa = fa-back;
@@ -209,7 +194,7 @@ module _ (command version : ℕ) (d : List ℕ) (is : replyFrame command (padded
   reply-data : dataAt (replyBytes command d) ≡ d
   reply-data = ap dataAt bytes-are ∙ data-encoded (frame version command d) small
 
-  reply-is : rowAt (placeOf command) .«reply_version» ≡ version → rowAt (placeOf command) .«reply_length» ≡ length d → isReply command (replyBytes command d) ≡ true
+  reply-is : rowAt (placeInTable command) .«reply_version» ≡ version → rowAt (placeInTable command) .«reply_length» ≡ length d → isReply command (replyBytes command d) ≡ true
   unfolding isReply
   reply-is v n =
       let f = frame version command d in
@@ -221,7 +206,7 @@ module _ (command version : ℕ) (d : List ℕ) (is : replyFrame command (padded
       (ap₂ _&&_ (eq-eqb _ _ (versioned ∙ sym v)) (eq-eqb _ _ (ap length reply-data ∙ sym n))))
 
 pub replies-read-back : RepliesReadBack
-unfolding placeOf rowAt table find replyFA replyFB replyFC replyState fieldsFA fieldsFB fieldsFC fieldsState
+unfolding placeInTable rowAt table find replyFA replyFB replyFC replyState fieldsFA fieldsFB fieldsFC fieldsState
 replies-read-back =
     record {
       fa = λ channel flag version. ap fieldsFA (reply-data 0xFA 0x00 (replyFA channel flag version) (reply-frames .fa channel flag version) (omega arith));

@@ -2,8 +2,8 @@
 use mathlib.Core.Path.{_≡_, refl}
 use Prim.Native.Nat.{ℕ, zero, suc, _≤_}
 use native.Mathlib.Omega.{arith}
-use Rattle.commands.specs.Search.{find}
-use Rattle.commands.specs.Table.{table, rowAt, placeOf}
+use Rattle.sequences.specs.Search.{find}
+use Rattle.commands.specs.Table.{table, rowAt, placeInTable}
 
 -- no reply is longer than FB's
 pub reply-short : (i : ℕ) → rowAt i .«reply_length» ≤ 26
@@ -17,6 +17,6 @@ reply-short (suc (suc (suc (suc (suc zero))))) = omega arith
 reply-short (suc (suc (suc (suc (suc (suc i)))))) = omega arith
 
 -- the outward F9's version byte is the table's
-pub f9-version : rowAt (placeOf 0xF9) .version ≡ 0x00
-unfolding placeOf find rowAt table
+pub f9-version : rowAt (placeInTable 0xF9) .version ≡ 0x00
+unfolding placeInTable find rowAt table
 f9-version = refl

@@ -1,8 +1,9 @@
 -- The definitions that the contracts of `commands` cite, in the order of 01, "The six commands".
 pub mod Limits
-pub mod Search
+pub mod Outcomes
 pub mod Table
 pub mod Requests
+pub mod States
 pub mod Replies
 pub mod RequestFrames
 pub mod ReplyFields

@@ -9,6 +9,10 @@ minPacket = 16
 abbrev pub maxPacket : ℕ
 maxPacket = 512
 
+-- "After number 65,535 no packet is next"
+abbrev pub maxNext : ℕ
+maxNext = 65536
+
 -- "the area's length, 1 to 1,048,576"
 abbrev pub maxArea : ℕ
 maxArea = 1048576

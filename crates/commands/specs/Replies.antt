@@ -5,12 +5,12 @@ use mathlib.Core.List.{List, [], _∷_, _++_}
 use Prim.Native.Nat.{ℕ, _<_}
 use lib.Dec.{ltb}
 use lib.ListN.{getD, take}
-use Rattle.frames.specs.Frame.{Frame}
-use Rattle.frames.specs.Numbers.{bytes16, bytes32}
-use Rattle.frames.specs.Finished.{zeros}
+use Rattle.fronts.specs.Frame.{Frame}
+use Rattle.sequences.specs.Numbers.{bytes16, bytes32}
+use Rattle.sequences.specs.Padding.{zeros}
 use Rattle.frames.specs.Buffer.{writtenSize, writtenRoom}
 use Rattle.commands.specs.Limits.{maxPacket}
-use Rattle.commands.specs.Table.{placeOf, rowAt}
+use Rattle.commands.specs.Table.{placeInTable, rowAt}
 
 -- the longest reply's data
 abbrev pub maxReply : ℕ
@@ -39,12 +39,12 @@ replyState channel state = channel ∷ state ∷ []
 -- the reply to a command: version byte and length are the table's
 unfoldable pub replyFrame : ℕ → List ℕ → Frame
 replyFrame command d =
-    let r = rowAt (placeOf command) in
+    let r = rowAt (placeInTable command) in
     record { version = r .«reply_version»; command = command; payload = take (r .«reply_length») d }
 
 -- F9 and commands outside the table have none
 unfoldable pub hasReply : ℕ → Bool
-hasReply command = ltb 0 (rowAt (placeOf command) .«reply_length»)
+hasReply command = ltb 0 (rowAt (placeInTable command) .«reply_length»)
 
 unfoldable pub replySize : ℕ → List ℕ → List ℕ → ℕ
 replySize command d room = cond (hasReply command) (writtenSize (replyFrame command d) room) 0

@@ -9,13 +9,13 @@ use Rattle.commands.specs.declared.reply_fields.ReplyFA.{ReplyFA}
 use Rattle.commands.specs.declared.reply_fields.ReplyFB.{ReplyFB}
 use Rattle.commands.specs.declared.reply_fields.ReplyFC.{ReplyFC}
 use Rattle.commands.specs.declared.reply_fields.ReplyState.{ReplyState}
-use Rattle.commands.specs.Table.{placeOf, rowAt}
+use Rattle.commands.specs.Table.{placeInTable, rowAt}
 use Rattle.commands.specs.Requests.{byteAt, number16At, number32At}
 
 -- some bytes are one whole frame and nothing else, of this command, with the version byte and L of its reply
 unfoldable pub isReply : ℕ → List ℕ → Bool
 isReply command s =
-    let r = rowAt (placeOf command) in
+    let r = rowAt (placeInTable command) in
     aloneAt s && (eqb (commandAt s) command && (eqb (versionAt s) (r .«reply_version») && eqb (length (dataAt s)) (r .«reply_length»)))
 
 -- FA: "channel, flag, version(3), Len2(2)"; the version is not read

@@ -2,13 +2,13 @@
 -- table's. Assumes nothing.
 use mathlib.Core.List.{List, [], _∷_, _++_}
 use Prim.Native.Nat.{ℕ}
-use Rattle.frames.specs.Frame.{Frame}
-use Rattle.frames.specs.Numbers.{bytes16, bytes32}
+use Rattle.fronts.specs.Frame.{Frame}
+use Rattle.sequences.specs.Numbers.{bytes16, bytes32}
 use Rattle.commands.specs.declared.request.RequestFA.{RequestFA}
 use Rattle.commands.specs.declared.request.RequestFB.{RequestFB}
 use Rattle.commands.specs.declared.request.RequestFC.{RequestFC}
 use Rattle.commands.specs.declared.request.RequestFD.{RequestFD}
-use Rattle.commands.specs.Table.{placeOf, rowAt}
+use Rattle.commands.specs.Table.{placeInTable, rowAt}
 
 abbrev pub byte : ℕ → List ℕ
 byte b = b ∷ []
@@ -41,4 +41,4 @@ dataFE channel = byte channel
 
 -- a command's request with this data
 unfoldable pub requestFrame : ℕ → List ℕ → Frame
-requestFrame command d = record { version = rowAt (placeOf command) .version; command = command; payload = d }
+requestFrame command d = record { version = rowAt (placeInTable command) .version; command = command; payload = d }

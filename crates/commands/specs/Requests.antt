@@ -4,8 +4,8 @@ use mathlib.Core.List.{List, []}
 use Prim.Native.Nat.{ℕ, _+_, _-_}
 use lib.Dec.{ltb}
 use lib.ListN.{getD, take, drop}
-use Rattle.frames.specs.Frame.{maxData, number16}
-use Rattle.frames.specs.Numbers.{number32}
+use Rattle.fronts.specs.Frame.{maxData}
+use Rattle.sequences.specs.Numbers.{number16, number32}
 use Rattle.commands.specs.declared.request.RequestFA.{RequestFA}
 use Rattle.commands.specs.declared.request.RequestFB.{RequestFB}
 use Rattle.commands.specs.declared.request.RequestFC.{RequestFC}
@@ -24,7 +24,7 @@ number32At at d = number32 (byteAt at d) (byteAt (at + 1) d) (byteAt (at + 2) d)
 abbrev pub fieldAt : ℕ → ℕ → List ℕ → List ℕ
 fieldAt at n d = take n (drop at d)
 
--- every request but F9 begins with the channel
+-- every request but F9 begins with the channel, and every reply
 abbrev pub channelOf : List ℕ → ℕ
 channelOf d = byteAt 0 d
 

@@ -6,8 +6,10 @@ use mathlib.Core.List.{List}
 use Prim.Native.Nat.{ℕ, _≤_, _<_}
 use lib.ListN.{length}
 use Rattle.frames.specs.declared.finished.FinishedFrame.{FinishedFrame}
-use Rattle.frames.specs.Frame.{encode}
-use Rattle.frames.specs.Finished.{padded, finished}
+use Rattle.fronts.specs.Frame.{encode}
+use Rattle.sequences.specs.Numbers.{max16, max32}
+use Rattle.sequences.specs.Padding.{padded}
+use Rattle.frames.specs.Finished.{finished}
 use Rattle.frames.specs.Buffer.{dataAt}
 use Rattle.commands.specs.declared.table.Header.{Header}
 use Rattle.commands.specs.declared.table.Header.the-variants.{Right}
@@ -21,12 +23,6 @@ use Rattle.commands.specs.Requests.{channelOf, requestFA, requestFB, req
 use Rattle.commands.specs.RequestFrames.{dataFA, dataFB, dataFC, dataFD, dataFE, requestFrame}
 use Rattle.commands.specs.Replies.{maxReply, replyFA, replyFB, replyFC, replyState, replyFrame}
 use Rattle.commands.specs.ReplyFields.{isReply, fieldsFA, fieldsFB, fieldsFC, fieldsState}
-
-abbrev pub max16 : ℕ
-max16 = 65536
-
-abbrev pub max32 : ℕ
-max32 = 4294967296
 
 -- ---- requests
 

@@ -5,5 +5,8 @@ pub const MIN_PACKET: usize = 16;
 // The most bytes of a packet: Len2 in FA's reply.
 pub const MAX_PACKET: usize = 512;
 
+// After number 65,535 no packet is next.
+pub const MAX_NEXT: usize = 65536;
+
 // The largest area, and so the longest image.
 pub const MAX_AREA: usize = 1048576;

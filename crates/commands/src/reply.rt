@@ -1,11 +1,11 @@
 // The data of the controller's replies, and a reply as a frame. Data comes in an array of the longest reply's size, zeros past it.
 use crate::limits::MAX_PACKET;
 use crate::table;
-use frames::number::bytes16;
-use frames::number::bytes32;
 use frames::writer;
+use sequences::number::bytes16;
+use sequences::number::bytes32;
 ghost use mathlib.Core.Path.{_≡_};
-ghost use Rattle.frames.specs.Finished.{padded, zeros};
+ghost use Rattle.sequences.specs.Padding.{padded, zeros};
 ghost use Rattle.commands.specs.Replies.{maxReply, replyFA, replyFB, replyFC, replyState, ReplyWritten};
 
 // The longest reply's data: FB's.

@@ -2,10 +2,11 @@
 // tells first.
 use crate::table;
 use frames::buffer;
-use frames::number::number16;
-use frames::number::number32;
+use sequences::number::number16;
+use sequences::number::number32;
 ghost use mathlib.Core.Path.{_≡_};
 ghost use lib.ListN.{getD};
+ghost use Rattle.commands.specs.Requests.{channelOf};
 ghost use Rattle.commands.specs.ReplyFields.{isReply, fieldsFA, fieldsFB, fieldsFC, fieldsState};
 
 // FA: may the image be sent (flag 0), in packets of at most `len2` bytes?
@@ -50,6 +51,13 @@ pub fn is_reply(command: u8, s: &[u8]) -> bool
         return buffer::data(s).len() == row.reply_length;
     }
     false
+}
+
+// Every reply begins with the channel.
+pub fn channel(d: &[u8]) -> u8
+    ensures { λ r. ⌜ r ≡ channelOf (now (d .entry)) ⌝ }
+{
+    byte(d, 0)
 }
 
 pub fn fa(d: &[u8]) -> ReplyFA

@@ -1,7 +1,8 @@
 // The fields of the module's requests, read from a frame's data. Every request but F9 begins with the channel.
-use frames::MAX_DATA;
-use frames::number::number16;
-use frames::number::number32;
+use fronts::MAX_DATA;
+use sequences::number::number16;
+use sequences::number::number32;
+use sequences::place;
 ghost use mathlib.Core.Path.{_≡_};
 ghost use Rattle.commands.specs.Requests.{channelOf, requestFA, requestFB, requestFC, requestFD, packetOf, fieldAt};
 
@@ -117,26 +118,23 @@ pub fn packet(d: &[u8; MAX_DATA], length: usize) -> &[u8]
 fn pid_in(d: &[u8; MAX_DATA]) -> [u8; 8]
     ensures { λ r. ⌜ r ≡ fieldAt 1 8 (now (d .entry)) ⌝ }
 {
-    let all: &[u8] = d;
     let mut pid = [0u8; 8];
-    bytes::copy(&all[PID..VERSION], &mut pid);
+    place::copy_out(d, PID, &mut pid);
     pid
 }
 
 fn version_in(d: &[u8; MAX_DATA]) -> [u8; 3]
     ensures { λ r. ⌜ r ≡ fieldAt 9 3 (now (d .entry)) ⌝ }
 {
-    let all: &[u8] = d;
     let mut version = [0u8; 3];
-    bytes::copy(&all[VERSION..MD5], &mut version);
+    place::copy_out(d, VERSION, &mut version);
     version
 }
 
 fn md5_in(d: &[u8; MAX_DATA]) -> [u8; 16]
     ensures { λ r. ⌜ r ≡ fieldAt 12 16 (now (d .entry)) ⌝ }
 {
-    let all: &[u8] = d;
     let mut md5 = [0u8; 16];
-    bytes::copy(&all[MD5..LENGTH], &mut md5);
+    place::copy_out(d, MD5, &mut md5);
     md5
 }

@@ -1,7 +1,7 @@
 // The command table of document 01.
 ghost use mathlib.Core.Path.{_≡_};
 ghost use Prim.Native.Nat.{_≤_, _<_};
-ghost use Rattle.commands.specs.Table.{placeOf, rowAt, RowOf, headerOf, badHeader};
+ghost use Rattle.commands.specs.Table.{placeInTable, rowAt, RowOf, headerOf, badHeader};
 
 pub const F9: u8 = 0xF9;
 
@@ -134,7 +134,7 @@ pub fn row_of(command: u8) -> Row
 
 // The place of a command in the table, or the table's length.
 fn place_of(command: u8) -> usize
-    ensures { λ r. ⌜ (r ≡ placeOf command) × (r ≤ 6) ⌝ }
+    ensures { λ r. ⌜ (r ≡ placeInTable command) × (r ≤ 6) ⌝ }
 {
     let mut i = 0;
     while i < COUNT {

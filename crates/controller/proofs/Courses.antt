@@ -10,19 +10,19 @@ use borrow.Author.Tests.{eqb-true}
 use lib.Dec.{eqb}
 use lib.ListN.{length, take, drop, replicate}
 use Rattle.crc.specs.Crc.{update, finish, crc32}
-use Rattle.frames.specs.Frame.{encode}
+use Rattle.fronts.specs.Frame.{encode}
 use Rattle.frames.specs.LiveReading.{Call, fedBy}
-use Rattle.frames.proofs.Orders.{lt-or-le}
+use Rattle.sequences.proofs.Orders.{lt-or-le}
 use Rattle.commands.specs.Replies.{replyFrame}
-use Rattle.transfer.specs.declared.check.Check.{Check}
-use Rattle.transfer.specs.declared.check.Verdict.{Verdict}
-use Rattle.transfer.specs.declared.check.Verdict.the-variants.{Unfinished, Right, Wrong}
+use Rattle.image.specs.declared.check.Check.{Check}
+use Rattle.image.specs.declared.check.Verdict.{Verdict}
+use Rattle.image.specs.declared.check.Verdict.the-variants.{Unfinished, Right, Wrong}
 use Rattle.transfer.specs.declared.state.Transfer.{Transfer}
 use Rattle.transfer.specs.declared.state.Step.{Step}
 use Rattle.transfer.specs.Transfers.{withCheck}
 use Rattle.transfer.specs.FE.{endedFE}
-use Rattle.transfer.specs.Portions.{unread, readOn}
-use Rattle.transfer.proofs.Slices.{willSay}
+use Rattle.image.specs.Checks.{readOn}
+use Rattle.transfer.specs.Portions.{unread, willSay}
 use Rattle.session.specs.declared.session.Session.{Session}
 use Rattle.session.specs.declared.check.Checked.{Checked}
 use Rattle.session.specs.Lawful.{unlawful}

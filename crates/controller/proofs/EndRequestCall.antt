@@ -9,22 +9,23 @@ use borrow.Author.Tests.{eqb-true, eq-eqb}
 use lib.Dec.{ltb, eqb}
 use lib.ListN.{length, getD, take, length-take}
 use Rattle.frames.specs.declared.reader.Fed.{Fed}
-use Rattle.frames.specs.Frame.{maxFrame, Frame, unsummed, encode}
-use Rattle.frames.specs.Finished.{padded}
+use Rattle.fronts.specs.Frame.{maxFrame, Frame, unsummed, encode}
+use Rattle.sequences.specs.Padding.{padded}
 use Rattle.frames.specs.LiveReading.{Call, called, fedBy, heldBytes}
 use Rattle.frames.proofs.Calls.{call-accepted, call-keeps}
 use Rattle.commands.specs.declared.table.Header.{Header}
 use Rattle.commands.specs.Replies.{maxReply, replyState, replyFrame}
 use Rattle.commands.proofs.ReplyFrames.{reply-frames}
-use Rattle.transfer.specs.declared.check.Verdict.the-variants.{Right, Wrong}
+use Rattle.image.specs.declared.check.Verdict.the-variants.{Right, Wrong}
 use Rattle.transfer.specs.declared.state.Transfer.{Transfer}
-use Rattle.transfer.specs.Transfers.{startedCheck, withCheck, replied}
-use Rattle.transfer.specs.FE.{reachesCrc, rightCrc}
-use Rattle.transfer.specs.Portions.{unread}
-use Rattle.transfer.proofs.Slices.{willSay, started-says}
+use Rattle.image.specs.Checks.{startedCheck}
+use Rattle.transfer.specs.Transfers.{withCheck, replied}
+use Rattle.transfer.specs.FE.{reachesCrc}
+use Rattle.transfer.specs.Portions.{unread, willSay, rightCrc}
+use Rattle.transfer.proofs.Ends.{started-says}
 use Rattle.session.specs.declared.session.Session.{Session}
 use Rattle.session.specs.declared.answer.Answer.{Answer}
-use Rattle.session.specs.Outcomes.{isAnswered}
+use Rattle.commands.specs.Outcomes.{accepted}
 use Rattle.session.specs.Lawful.{unlawful}
 use Rattle.session.specs.Answering.{stepped, placeFor, answered, areaAfter, byHeader}
 use Rattle.session.specs.OneGo.{inOneGo}
@@ -66,7 +67,7 @@ state-in channel state room wide =
     reply-in true 0xFE d room (λ _. reply-frames .fe-replied) wide
     ∙ ap (λ (f : Frame). encode f ∷ []) (reply-frames .fe channel state)
 
-module _ (call : Call) (untaken : List ℕ) (r : Record) (channel : ℕ) (room area : List ℕ) (ok : refusalOf r (length room) (length area) ≡ isAnswered)
+module _ (call : Call) (untaken : List ℕ) (r : Record) (channel : ℕ) (room area : List ℕ) (ok : refusalOf r (length room) (length area) ≡ accepted)
     (still : isChecking r ≡ false) (found : fedBy call untaken (r .reader) .found ≡ true) (is : IsEndRequest (fedBy call untaken (r .reader) .frame) channel) where
   abbrev f : Fed
   f = fedBy call untaken (r .reader)
@@ -224,23 +225,23 @@ module _ (call : Call) (untaken : List ℕ) (r : Record) (channel : ℕ) (room a
         reply-is : y .replies ≡ encode (replyFrame 0xFE (inOneGo s (f .frame) area .reply)) ∷ []
         reply-is = done .reply tt ∙ ap (λ (w : Answer). encode (replyFrame 0xFE (w .reply)) ∷ []) (sym one-go)
 
-        state-is : y .replies ≡ stateFrame (t .channel) (verdictState (cond (rightCrc t area) Right Wrong)) ∷ []
+        state-is : y .replies ≡ stateFrame (t .leg .channel) (verdictState (cond (rightCrc t area) Right Wrong)) ∷ []
         state-is =
             done .reply tt
             ∙ ap (λ (l : List ℕ). l ∷ []) (ended-reply (x .called .next .session .transfer) (willSay (x .called .next .session .transfer) area))
-            ∙ ap₂ (λ (k : ℕ) (b : Bool). stateFrame k (verdictState (cond b Right Wrong)) ∷ []) (ap (λ (u : Session). u .transfer .channel) session-is) says-is
+            ∙ ap₂ (λ (k : ℕ) (b : Bool). stateFrame k (verdictState (cond b Right Wrong)) ∷ []) (ap (λ (u : Session). u .transfer .leg .channel) session-is) says-is
 
         success : (y .replies ≡ successFrame channel ∷ []) ↔ Complete t channel area
         success = go (rightCrc t area) refl
           where
-            at : (b : Bool) → rightCrc t area ≡ b → y .replies ≡ stateFrame (t .channel) (verdictState (cond b Right Wrong)) ∷ []
-            at b e = state-is ∙ ap (λ (b : Bool). stateFrame (t .channel) (verdictState (cond b Right Wrong)) ∷ []) e
+            at : (b : Bool) → rightCrc t area ≡ b → y .replies ≡ stateFrame (t .leg .channel) (verdictState (cond b Right Wrong)) ∷ []
+            at b e = state-is ∙ ap (λ (b : Bool). stateFrame (t .leg .channel) (verdictState (cond b Right Wrong)) ∷ []) e
 
             go : (b : Bool) → rightCrc t area ≡ b → (y .replies ≡ successFrame channel ∷ []) ↔ Complete t channel area
             go true e =
                 let c = started-complete s (f .frame) channel area lawful size is still (sym runs-is ∙ runs) (eqb-true _ _ e) in
                 (λ _. c, λ _. at true e ∙ ap (λ (k : ℕ). stateFrame k 0 ∷ []) (sym (c .here)))
-            go false e = (λ w. absurd (let n = state-shows (t .channel) channel 3 0 (sym (at false e) ∙ w) in omega arith), λ c. true-false (sym (eq-eqb _ _ (c .right)) ∙ e))
+            go false e = (λ w. absurd (let n = state-shows (t .leg .channel) channel 3 0 (sym (at false e) ∙ w) in omega arith), λ c. true-false (sym (eq-eqb _ _ (c .right)) ∙ e))
 
         finally : AsInOneGo r (f .frame) channel area y
         finally =

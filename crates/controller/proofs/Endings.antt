@@ -10,18 +10,18 @@ use lib.Dec.{lit≤}
 use lib.ListN.{length, take, drop, length-drop}
 use lib.Seq.{drop-nil, take-length, drop-length}
 use Rattle.frames.specs.declared.reader.Reader.{Reader}
-use Rattle.frames.specs.Frame.{Bytes, Frame}
-use Rattle.frames.specs.Finished.{zeros}
+use Rattle.sequences.specs.Bytes.{Bytes}
+use Rattle.fronts.specs.Frame.{Frame}
+use Rattle.sequences.specs.Padding.{zeros}
 use Rattle.frames.specs.Reading.{reading}
 use Rattle.frames.specs.LiveReading.{CallResult, Call, feeding, quiet, called, heldBytes}
 use Rattle.frames.proofs.Calls.{call-keeps, held-again, quiet-emptied}
-use Rattle.transfer.specs.Portions.{unread}
-use Rattle.transfer.proofs.Slices.{willSay}
+use Rattle.transfer.specs.Portions.{unread, willSay}
 use Rattle.session.specs.declared.check.Checked.{Checked}
 use Rattle.session.proofs.Checks.{finished-by}
 use Rattle.controller.specs.declared.record.Record.{Record}
 use Rattle.controller.specs.Portions.{PortionLeaves, checkedPortion, CallKind, lineCall, portion}
-use Rattle.controller.specs.Demand3.{State, own, Listed, Place, checking, accepted, afterPortion, next, Allowed, RunStart, start, Ending, Demand3}
+use Rattle.controller.specs.Demand3.{State, own, Listed, Place, checking, isAccepted, afterPortion, next, Allowed, RunStart, start, Ending, Demand3}
 use Rattle.controller.proofs.Refusals.{record-accepted, accepts}
 use Rattle.controller.proofs.Steps.{stateOf, heldOf, givenState, landed, onOwn, next-landed}
 use Rattle.controller.proofs.Settling.{ended-still}
@@ -37,7 +37,7 @@ or-true true = refl
 or-true false = refl
 
 module _ (s₀ : State) (fs : List Frame) (n : ℕ) where
-  is-accepted : (k : CallKind) (p : Place) → Keeps s₀ fs n p → accepted (record { kind = k; room = room; lends = own }) p ≡ true
+  is-accepted : (k : CallKind) (p : Place) → Keeps s₀ fs n p → isAccepted (record { kind = k; room = room; lends = own }) p ≡ true
   is-accepted k p i =
       eq-eqb _ 0
       (accepts (p .at) (length room) (length (p .area))
@@ -74,10 +74,10 @@ module _ (s₀ : State) (fs : List Frame) (n : ℕ) where
       m : Listed
       m = onOwn quiet room
 
-      yes : accepted m p ≡ true
+      yes : isAccepted m p ≡ true
       yes = is-accepted (lineCall quiet) p i
 
-      e : next m p ≡ landed c (p .quieted || accepted m p) p
+      e : next m p ≡ landed c (p .quieted || isAccepted m p) p
       e = next-landed quiet room p yes
 
       ok : Allowed m p

@@ -9,12 +9,14 @@ use borrow.Author.Tests.{eqb-true, eq-eqb}
 use lib.Dec.{eqb}
 use lib.ListN.{length, drop, length-take}
 use lib.Seq.{drop-nil}
-use Rattle.frames.specs.Frame.{Bytes, maxData, maxFrame, Frame, FrameBytes, encode}
-use Rattle.frames.specs.Finished.{padded, finished}
+use Rattle.sequences.specs.Bytes.{Bytes}
+use Rattle.fronts.specs.Frame.{maxData, maxFrame, Frame, FrameBytes, encode}
+use Rattle.sequences.specs.Padding.{padded}
+use Rattle.frames.specs.Finished.{finished}
 use Rattle.frames.specs.LiveReading.{CallResult, Call, feeding, quiet, called, due}
-use Rattle.frames.proofs.Orders.{lt-or-le}
-use Rattle.frames.proofs.Choices.{of-both}
-use Rattle.frames.proofs.Padding.{bytes-padded}
+use Rattle.sequences.proofs.Orders.{lt-or-le}
+use Rattle.sequences.proofs.Conditionals.{of-both}
+use Rattle.sequences.proofs.Padding.{bytes-padded}
 use Rattle.frames.proofs.FinishedFrames.{finished-bytes}
 use Rattle.frames.proofs.Calls.{call-keeps, held-again}
 use Rattle.frames.proofs.Remains.{Remains, stateAfter, repliesOf, remains-called}
@@ -22,8 +24,8 @@ use Rattle.commands.specs.Replies.{replyFrame}
 use Rattle.transfer.specs.declared.state.Transfer.{Transfer}
 use Rattle.transfer.specs.declared.state.Step.{Step}
 use Rattle.transfer.specs.Transfers.{withCheck}
-use Rattle.transfer.specs.Portions.{unread, readOn}
-use Rattle.transfer.proofs.Slices.{willSay}
+use Rattle.image.specs.Checks.{readOn}
+use Rattle.transfer.specs.Portions.{unread, willSay}
 use Rattle.session.specs.declared.session.Session.{Session}
 use Rattle.session.specs.declared.check.Checked.{Checked}
 use Rattle.session.specs.Lawful.{unlawful}
@@ -33,7 +35,7 @@ use Rattle.session.proofs.Checks.{dueOf, unended, finished-by}
 use Rattle.controller.specs.declared.record.Record.{Record}
 use Rattle.controller.specs.Calls.{minRoom, refusalOf}
 use Rattle.controller.specs.Portions.{PortionLeaves, refusedPortion, checkedPortion, portionCall, CallKind, lineCall, portion}
-use Rattle.controller.specs.Demand3.{State, stepTo, replyTo, Lent, own, other, Listed, Place, lent, checking, accepted, isQuiet, afterPortion, next, Allowed}
+use Rattle.controller.specs.Demand3.{State, stepTo, replyTo, Lent, own, other, Listed, Place, lent, checking, isAccepted, isQuiet, afterPortion, next, Allowed}
 use Rattle.controller.proofs.Refusals.{accepted-of}
 use Rattle.controller.proofs.Steps.{stateOf, heldOf, givenState, givenReply, landed, onOwn, next-refused, next-landed}
 use Rattle.controller.proofs.Settling.{settledState, dueReply, verdict-reply, ended-still, landed-settled, landed-reply}
@@ -45,8 +47,7 @@ pub record Good (s : State) : Type 0 where
 
 given-good : (s : State) (f : Frame) → FrameBytes f → Good s → Good (givenState s f)
 given-good s f b g =
-    let bytes : Bytes (finished f .bytes) = subst Bytes (sym (finished-bytes f)) (bytes-padded maxData (f .payload) (b .payload)) in
-    let k = answer-keeps (s .session) (finished f) (s .area) (g .lawful) bytes in
+    let k = answer-keeps (s .session) (finished f) (s .area) (g .lawful) in
     record { lawful = k .accepted; size = area-size (s .session) (finished f) (s .area) ∙ g .size ∙ sym (k .same-area) }
 
 -- ---- a portion call
@@ -146,7 +147,7 @@ module _ (s₀ : State) (fs : List Frame) (n : ℕ) where
       or-false false = refl
   none-left quiet a p t i u q = ap (drop t) u ∙ drop-nil t
 
-  landed-call : (k : Call) (room : List ℕ) (p : Place) → Keeps p → accepted (onOwn k room) p ≡ true → due k (p .untaken) → checking p ≡ false → Keeps (next (onOwn k room) p)
+  landed-call : (k : Call) (room : List ℕ) (p : Place) → Keeps p → isAccepted (onOwn k room) p ≡ true → due k (p .untaken) → checking p ≡ false → Keeps (next (onOwn k room) p)
   landed-call k room p i e u still =
       let h = heldOf p in
       let r = p .untaken in
@@ -154,11 +155,11 @@ module _ (s₀ : State) (fs : List Frame) (n : ℕ) where
       let keeps = call-keeps k h r in
       let m = still-remains p i still in
       subst Keeps (sym (next-landed k room p e))
-      (landed-keeps c (p .quieted || (isQuiet k && accepted (onOwn k room) p)) p i still
+      (landed-keeps c (p .quieted || (isQuiet k && isAccepted (onOwn k room) p)) p i still
       (keeps .frame (m .held) (m .coming))
       (keeps .small (omega (arith, length-take (p .at .reader .count) (p .at .reader .held), i .count)))
       (remains-called stepTo replyTo k h r u m)
-      (none-left k (accepted (onOwn k room) p) p (c .taken) i u))
+      (none-left k (isAccepted (onOwn k room) p) p (c .taken) i u))
 
   -- ---- a portion
 
@@ -222,7 +223,7 @@ module _ (s₀ : State) (fs : List Frame) (n : ℕ) where
   -- ---- any call
 
   accepted-keeps : (kind : CallKind) (room : List ℕ) (lends : Lent) (p : Place) → Keeps p → Allowed (record { kind = kind; room = room; lends = lends }) p
-      → accepted (record { kind = kind; room = room; lends = lends }) p ≡ true → Keeps (next (record { kind = kind; room = room; lends = lends }) p)
+      → isAccepted (record { kind = kind; room = room; lends = lends }) p ≡ true → Keeps (next (record { kind = kind; room = room; lends = lends }) p)
   accepted-keeps (lineCall k) room own p i a e = landed-call k room p i e (a .1 e .0) (a .1 e .1)
   accepted-keeps (portion most) room own p i a e =
       subst Keeps (sym (ap (λ (x : PortionLeaves). afterPortion x p) (portion-accepted most (p .at) room (p .area) e)))
@@ -231,15 +232,15 @@ module _ (s₀ : State) (fs : List Frame) (n : ℕ) where
   accepted-keeps kind room (other memory) p i a e =
       absurd (a .0 (accepted-of (p .at) (length room) (length memory) (eqb-true _ _ e) .size ∙ sym (i .good .size)))
 
-  refused-keeps : (kind : CallKind) (room : List ℕ) (lends : Lent) (p : Place) → Keeps p → accepted (record { kind = kind; room = room; lends = lends }) p ≡ false
+  refused-keeps : (kind : CallKind) (room : List ℕ) (lends : Lent) (p : Place) → Keeps p → isAccepted (record { kind = kind; room = room; lends = lends }) p ≡ false
       → Keeps (next (record { kind = kind; room = room; lends = lends }) p)
   refused-keeps (lineCall k) room lends p i e = subst Keeps (sym (next-refused k room lends p e)) i
   refused-keeps (portion most) room lends p i e =
       subst Keeps (sym (ap (λ (x : PortionLeaves). afterPortion x p) (portion-refused most (p .at) room (lent lends (p .area)) e) ∙ unmoved p)) i
 
   pub next-keeps : (c : Listed) (p : Place) → Keeps p → Allowed c p → Keeps (next c p)
-  next-keeps c p i a = go (accepted c p) refl
+  next-keeps c p i a = go (isAccepted c p) refl
     where
-      go : (b : Bool) → accepted c p ≡ b → Keeps (next c p)
+      go : (b : Bool) → isAccepted c p ≡ b → Keeps (next c p)
       go true e = accepted-keeps (c .kind) (c .room) (c .lends) p i a e
       go false e = refused-keeps (c .kind) (c .room) (c .lends) p i e

@@ -9,11 +9,13 @@ use borrow.Author.Tests.{eqb-true}
 use lib.Dec.{eqb}
 use lib.ListN.{length, length-take, length-replicate}
 use Rattle.frames.specs.declared.reader.Fed.{Fed}
-use Rattle.frames.specs.Frame.{Bytes, maxData, maxFrame}
-use Rattle.frames.specs.Finished.{zeros, finished}
+use Rattle.sequences.specs.Bytes.{Bytes}
+use Rattle.fronts.specs.Frame.{maxData, maxFrame}
+use Rattle.sequences.specs.Padding.{zeros}
+use Rattle.frames.specs.Finished.{finished}
 use Rattle.frames.specs.LiveReading.{CallResult, Call, called, fedBy, heldBytes, handedBack}
-use Rattle.frames.proofs.Orders.{lt-or-le}
-use Rattle.frames.proofs.Padding.{bytes-padded}
+use Rattle.sequences.proofs.Orders.{lt-or-le}
+use Rattle.sequences.proofs.Padding.{bytes-padded}
 use Rattle.frames.proofs.FinishedFrames.{finished-bytes}
 use Rattle.frames.proofs.Calls.{call-accepted, call-keeps}
 use Rattle.transfer.specs.declared.board.Board.{Board}
@@ -21,7 +23,7 @@ use Rattle.transfer.specs.Portions.{unread}
 use Rattle.session.specs.declared.session.Session.{Session}
 use Rattle.session.specs.declared.check.Checked.{Checked}
 use Rattle.session.specs.Boards.{maxBoards}
-use Rattle.session.specs.Outcomes.{isAnswered}
+use Rattle.commands.specs.Outcomes.{accepted}
 use Rattle.session.specs.Lawful.{unlawful}
 use Rattle.session.specs.Checking.{checked}
 use Rattle.session.proofs.Kept.{answer-keeps}
@@ -36,10 +38,10 @@ use Rattle.controller.proofs.Openings.{opens}
 use Rattle.controller.proofs.Steps.{calling-refused, calling-accepted}
 use Rattle.controller.proofs.Keeping.{portion-refused, portion-accepted, no-check}
 
-finished-keeps : (c : Call) (rest : List ℕ) (r : Record) (room area : List ℕ) → Bytes (heldBytes (r .reader)) → Bytes rest → unlawfulRecord r ≡ false
+finished-keeps : (c : Call) (rest : List ℕ) (r : Record) (room area : List ℕ) → unlawfulRecord r ≡ false
     → unlawfulRecord (finishedCall (handedBack (called c (heldBytes (r .reader)) rest)) (r .session) room area .called .next) ≡ false
 unfolding finishedCall
-finished-keeps c rest r room area held new ok = go (x .found) refl
+finished-keeps c rest r room area ok = go (x .found) refl
   where
     x : CallResult
     x = called c (heldBytes (r .reader)) rest
@@ -47,16 +49,13 @@ finished-keeps c rest r room area held new ok = go (x .found) refl
     small : length (x .held) ≤ maxFrame
     small = call-keeps c (heldBytes (r .reader)) rest .small (omega (arith, length-take (r .reader .count) (r .reader .held), lawful-record r ok .count))
 
-    bytes : Bytes (finished (x .frame) .bytes)
-    bytes = subst Bytes (sym (finished-bytes (x .frame))) (bytes-padded maxData (x .frame .payload) (call-keeps c (heldBytes (r .reader)) rest .frame held new .payload))
-
     go : (b : Bool) → x .found ≡ b → unlawfulRecord (finishedCall (handedBack x) (r .session) room area .called .next) ≡ false
-    go true e = rw e (record-accepted _ (record { count = small; session = answer-keeps (r .session) (finished (x .frame)) area (lawful-record r ok .session) bytes .accepted }))
+    go true e = rw e (record-accepted _ (record { count = small; session = answer-keeps (r .session) (finished (x .frame)) area (lawful-record r ok .session) .accepted }))
     go false e = rw e (record-accepted _ (record { count = small; session = lawful-record r ok .session }))
 
-by-reading : (c : Call) (rest : List ℕ) (r : Record) (room area : List ℕ) → Bytes (heldBytes (r .reader)) → Bytes rest → unlawfulRecord r ≡ false
+by-reading : (c : Call) (rest : List ℕ) (r : Record) (room area : List ℕ) → unlawfulRecord r ≡ false
     → unlawfulRecord (calledBy (fedBy c rest) r room area .called .next) ≡ false
-by-reading c rest r room area held new ok = go (eqb (refusalOf r (length room) (length area)) 0) refl
+by-reading c rest r room area ok = go (eqb (refusalOf r (length room) (length area)) 0) refl
   where
     Good : CallLeaves → Type 0
     Good x = unlawfulRecord (x .called .next) ≡ false
@@ -66,7 +65,7 @@ by-reading c rest r room area held new ok = go (eqb (refusalOf r (length room) (
     go true e =
         subst Good
         (sym (calling-accepted (fedBy c rest) r room area e ∙ ap (λ (f : Fed). finishedCall f (r .session) room area) (call-accepted c rest (r .reader) (lawful-record r ok .count))))
-        (finished-keeps c rest r room area held new ok)
+        (finished-keeps c rest r room area ok)
 
 module _ (most : ℕ) (r : Record) (room area : List ℕ) (ok : unlawfulRecord r ≡ false) where
   abbrev s : Session
@@ -102,7 +101,7 @@ module _ (most : ℕ) (r : Record) (room area : List ℕ) (ok : unlawfulRecord r
       go false e = subst Good (sym (portion-refused most r room area e)) ok
       go true e = checked-keeps e (s .transfer .check .running) refl
 
-opened-lawful : (bs : List Board) (n area : ℕ) → length bs ≡ maxBoards → openedRecord bs n area .outcome ≡ isAnswered → unlawfulRecord (openedRecord bs n area .next) ≡ false
+opened-lawful : (bs : List Board) (n area : ℕ) → length bs ≡ maxBoards → openedRecord bs n area .outcome ≡ accepted → unlawfulRecord (openedRecord bs n area .next) ≡ false
 opened-lawful bs n area ten z = opens bs n area ten .usable z (zeros area) (length-replicate {A = ℕ} area 0) .lawful
 
 pub lawful-kept : LawfulKept

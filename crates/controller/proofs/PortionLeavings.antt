@@ -9,13 +9,12 @@ use borrow.Author.Tests.{eqb-true, eqb-false, ltb-true}
 use lib.Dec.{ltb, eqb}
 use lib.ListN.{length, drop}
 use lib.Seq.{length-slice}
-use Rattle.frames.proofs.Orders.{lt-or-le}
-use Rattle.frames.proofs.Choices.{of-each}
+use Rattle.sequences.proofs.Orders.{lt-or-le}
+use Rattle.sequences.proofs.Conditionals.{of-each}
 use Rattle.transfer.specs.declared.state.Transfer.{Transfer}
-use Rattle.transfer.specs.Transfers.{noCheck}
 use Rattle.transfer.specs.FE.{endedFE}
-use Rattle.transfer.specs.Portions.{unread, portionSize, portionOf}
-use Rattle.transfer.proofs.Slices.{willSay}
+use Rattle.image.specs.Checks.{noCheck, portionSize, portionOf}
+use Rattle.transfer.specs.Portions.{unread, checkStep, willSay}
 use Rattle.session.specs.declared.session.Session.{Session}
 use Rattle.session.specs.declared.check.Checked.{Checked}
 use Rattle.session.specs.Lawful.{unlawful}
@@ -109,11 +108,11 @@ module _ (most : ℕ) (r : Record) (room area : List ℕ) where
 
     -- the count is the definition's
     counts : eqb code 0 ≡ true → s .transfer .check .running ≡ true → Counted most (s .transfer) area (portionCall most r room area)
-    unfolding portionOf
+    unfolding checkStep portionOf
     counts e runs =
         let t = s .transfer in
         let l = lawful-session s lawful in
-        let n = portionSize t most in
+        let n = portionSize most (unread t) in
         let size : n ≤ unread t = smaller most (unread t) in
         let bytes = length-slice (t .check .read) (t .check .read + n) area (omega (arith, l .check-unread runs, l .announced, a .size, size)) in
         subst (Counted most t area) (sym (accepted-is e _ (is-portion s most area lawful (a .size) runs)))

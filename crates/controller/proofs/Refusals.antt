@@ -6,8 +6,8 @@ use Prim.Native.Nat.{ℕ, _<_, _≤_}
 use native.Mathlib.Omega.{arith}
 use borrow.Author.Tests.{ltb-true, ltb-false, le-ltb, eqb-true, eqb-false, eq-eqb, not-false}
 use lib.Dec.{ltb, eqb}
-use Rattle.frames.specs.Frame.{maxFrame}
-use Rattle.frames.proofs.Choices.{no-refusal, neither}
+use Rattle.fronts.specs.Frame.{maxFrame}
+use Rattle.sequences.proofs.Conditionals.{no-refusal, neither}
 use Rattle.session.specs.Lawful.{unlawful}
 use Rattle.controller.specs.declared.record.Record.{Record}
 use Rattle.controller.specs.Records.{unlawfulRecord}

@@ -8,14 +8,15 @@ use borrow.Author.Tests.{eqb-true, eq-eqb}
 use lib.Dec.{ltb, eqb}
 use lib.ListN.{length, length-take}
 use Rattle.frames.specs.declared.reader.Fed.{Fed}
-use Rattle.frames.specs.Frame.{maxFrame}
+use Rattle.fronts.specs.Frame.{maxFrame}
 use Rattle.frames.specs.Finished.{finished}
 use Rattle.frames.specs.LiveReading.{CallResult, Call, called, fedBy, heldBytes, handedBack}
 use Rattle.frames.proofs.Calls.{call-accepted, call-keeps}
-use Rattle.frames.proofs.Choices.{of-both}
+use Rattle.sequences.proofs.Conditionals.{of-both}
 use Rattle.session.specs.declared.session.Session.{Session}
+use Rattle.transfer.specs.Transfers.{Effect}
 use Rattle.session.specs.declared.answer.Answer.{Answer}
-use Rattle.session.specs.Outcomes.{isAnswered}
+use Rattle.commands.specs.Outcomes.{accepted}
 use Rattle.session.specs.Lawful.{unlawful}
 use Rattle.session.specs.Answering.{answered}
 use Rattle.session.proofs.Checks.{running-same, running-answers, still-answers}
@@ -117,7 +118,7 @@ while-checking call untaken r room memory runs = go (eqb (refusalOf r (length ro
 -- ---- what a frame meets
 
 -- a call that is not refused and found a frame, by its answer
-found-answers : (call : Call) (untaken : List ℕ) (r : Record) (room area : List ℕ) → refusalOf r (length room) (length area) ≡ isAnswered
+found-answers : (call : Call) (untaken : List ℕ) (r : Record) (room area : List ℕ) → refusalOf r (length room) (length area) ≡ accepted
     → fedBy call untaken (r .reader) .found ≡ true
     → let f = fedBy call untaken (r .reader) in calledBy (fedBy call untaken) r room area .called ≡ answeredCall f (answered (r .session) (f .frame) area) room
 unfolding finishedCall
@@ -128,7 +129,7 @@ frame-meets-check call untaken r room area ok runs found =
     let f = fedBy call untaken (r .reader) in
     let a = accepted-of r (length room) (length area) ok in
     ap (λ (c : Called). c .outcome) (found-answers call untaken r room area ok found)
-    ∙ ap (λ (w : Answer). w .outcome) (running-answers (r .session) (f .frame) area (lawful-record r (a .lawful) .session) (a .size) runs)
+    ∙ ap (λ (w : Effect Answer). w .gives .outcome) (running-answers (r .session) (f .frame) area (lawful-record r (a .lawful) .session) (a .size) runs)
 
 -- a refusal is 9, 6 or 5
 not-twelve : (r : Record) (room area : ℕ) → refusalOf r room area ≡ 12 → ⊥
@@ -160,6 +161,6 @@ only-while-checking call untaken r room area twelve = by-code (eqb code 0) refl
     by-found true e = λ z. (e, runs (isChecking r) refl e z)
     by-found false e = rw e (λ z. absurd (omega arith))
 
-    by-code : (b : Bool) → eqb code 0 ≡ b → (code ≡ isAnswered) × ((f .found ≡ true) × (isChecking r ≡ true))
+    by-code : (b : Bool) → eqb code 0 ≡ b → (code ≡ accepted) × ((f .found ≡ true) × (isChecking r ≡ true))
     by-code false e = absurd (not-twelve r (length room) (length area) (outcome _ (calling-refused (fedBy call untaken) r room area e)))
     by-code true e = (eqb-true _ _ e, by-found (f .found) refl (outcome _ (calling-accepted (fedBy call untaken) r room area e)))

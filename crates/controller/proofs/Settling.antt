@@ -4,7 +4,7 @@ use mathlib.Core.Bool.{Bool, true, false, cond}
 use mathlib.Core.List.{List, [], _∷_, _++_, append-nil}
 use Prim.Native.Nat.{ℕ, _≤_}
 use lib.ListN.{length, drop}
-use Rattle.frames.specs.Frame.{Frame, encode}
+use Rattle.fronts.specs.Frame.{Frame, encode}
 use Rattle.frames.specs.Finished.{finished}
 use Rattle.frames.specs.LiveReading.{CallResult}
 use Rattle.frames.proofs.FinishedFrames.{finished-command}
@@ -13,10 +13,10 @@ use Rattle.commands.specs.Replies.{replyFrame}
 use Rattle.commands.proofs.ReplyFrames.{reply-frames}
 use Rattle.commands.proofs.Replies.{reply-room}
 use Rattle.transfer.specs.declared.state.Transfer.{Transfer}
-use Rattle.transfer.specs.declared.check.Verdict.the-variants.{Right, Wrong}
+use Rattle.image.specs.declared.check.Verdict.the-variants.{Right, Wrong}
 use Rattle.transfer.specs.FE.{endedFE}
 use Rattle.session.specs.declared.answer.Answer.{Answer}
-use Rattle.session.specs.Outcomes.{isAnswered}
+use Rattle.commands.specs.Outcomes.{accepted}
 use Rattle.session.specs.Checking.{outcomeOf}
 use Rattle.session.specs.OneGo.{inOneGo}
 use Rattle.session.proofs.Kept.{withTransfer}
@@ -34,7 +34,7 @@ abbrev pub dueReply : State → List (List ℕ)
 dueReply s = cond (s .session .transfer .check .running) (encode (replyFrame 0xFE (dueOf (s .session) (s .area) .reply)) ∷ []) []
 
 -- a verdict is outcome 0
-pub verdict-answers : (right : Bool) → outcomeOf (cond right Right Wrong) ≡ isAnswered
+pub verdict-answers : (right : Bool) → outcomeOf (cond right Right Wrong) ≡ accepted
 verdict-answers true = refl
 verdict-answers false = refl
 
@@ -50,10 +50,10 @@ ended-still t true = refl
 ended-still t false = refl
 
 -- its reply is the session's channel, and 00 or 03
-pub ended-reply : (t : Transfer) (right : Bool) → encode (replyFrame 0xFE (endedFE t right .reply)) ≡ stateFrame (t .channel) (verdictState (cond right Right Wrong))
+pub ended-reply : (t : Transfer) (right : Bool) → encode (replyFrame 0xFE (endedFE t right .reply)) ≡ stateFrame (t .leg .channel) (verdictState (cond right Right Wrong))
 unfolding endedFE
-ended-reply t true = ap encode (reply-frames .fe (t .channel) 0)
-ended-reply t false = ap encode (reply-frames .fe (t .channel) 3)
+ended-reply t true = ap encode (reply-frames .fe (t .leg .channel) 0)
+ended-reply t false = ap encode (reply-frames .fe (t .leg .channel) 3)
 
 -- in the room
 pub verdict-reply : (t : Transfer) (right : Bool) (room : List ℕ) → minRoom ≤ length room → let d = endedFE t right in

@@ -9,7 +9,7 @@ use lib.Dec.{eqb}
 use lib.ListN.{length, drop}
 use Rattle.frames.specs.declared.reader.Reader.{Reader}
 use Rattle.frames.specs.declared.reader.Fed.{Fed}
-use Rattle.frames.specs.Frame.{Frame, encode}
+use Rattle.fronts.specs.Frame.{Frame, encode}
 use Rattle.frames.specs.Finished.{finished}
 use Rattle.frames.specs.LiveReading.{CallResult, Call, called, fedBy, heldBytes, holding, handedBack}
 use Rattle.frames.proofs.FinishedFrames.{finished-command}
@@ -23,7 +23,7 @@ use Rattle.session.proofs.TableFrames.{replied-command}
 use Rattle.controller.specs.declared.record.Record.{Record}
 use Rattle.controller.specs.Calls.{minRoom, refusalOf, CallLeaves, refusedCall, replySizeOf, replyRoomOf, replyIn, finishedCall, calledBy}
 use Rattle.controller.specs.Portions.{lineCall}
-use Rattle.controller.specs.Demand3.{State, Lent, own, other, Listed, Place, lent, accepted, isQuiet, after, next}
+use Rattle.controller.specs.Demand3.{State, Lent, own, other, Listed, Place, lent, isAccepted, isQuiet, after, next}
 use Rattle.controller.proofs.Refusals.{lawful-record, accepted-of}
 
 abbrev pub stateOf : Place → State
@@ -108,23 +108,23 @@ calling-accepted reads r room area e = rw e
 abbrev pub lending : Call → List ℕ → Lent → Listed
 lending k room lends = record { kind = lineCall k; room = room; lends = lends }
 
-pub next-refused : (k : Call) (room : List ℕ) (lends : Lent) (p : Place) → accepted (lending k room lends) p ≡ false → next (lending k room lends) p ≡ p
+pub next-refused : (k : Call) (room : List ℕ) (lends : Lent) (p : Place) → isAccepted (lending k room lends) p ≡ false → next (lending k room lends) p ≡ p
 next-refused k room lends p e =
     let c = lending k room lends in
     let q = ap (λ (x : Bool). p .quieted || (isQuiet k && x)) e ∙ or-not (p .quieted) (isQuiet k) in
-    ap (λ (x : CallLeaves). after x lends (p .quieted || (isQuiet k && accepted c p)) p) (calling-refused (fedBy k (p .untaken)) (p .at) room (lent lends (p .area)) e)
-    ∙ refused-place (refusalOf (p .at) (length room) (length (lent lends (p .area)))) room lends (p .quieted || (isQuiet k && accepted c p)) p q
+    ap (λ (x : CallLeaves). after x lends (p .quieted || (isQuiet k && isAccepted c p)) p) (calling-refused (fedBy k (p .untaken)) (p .at) room (lent lends (p .area)) e)
+    ∙ refused-place (refusalOf (p .at) (length room) (length (lent lends (p .area)))) room lends (p .quieted || (isQuiet k && isAccepted c p)) p q
 
 -- ---- a call that is not refused, on the area itself
 
 abbrev pub onOwn : Call → List ℕ → Listed
 onOwn c room = lending c room own
 
-pub next-landed : (k : Call) (room : List ℕ) (p : Place) → accepted (onOwn k room) p ≡ true
-    → next (onOwn k room) p ≡ landed (called k (heldOf p) (p .untaken)) (p .quieted || (isQuiet k && accepted (onOwn k room) p)) p
+pub next-landed : (k : Call) (room : List ℕ) (p : Place) → isAccepted (onOwn k room) p ≡ true
+    → next (onOwn k room) p ≡ landed (called k (heldOf p) (p .untaken)) (p .quieted || (isQuiet k && isAccepted (onOwn k room) p)) p
 next-landed k room p e =
     let a = accepted-of (p .at) (length room) (length (p .area)) (eqb-true _ _ e) in
-    let q = p .quieted || (isQuiet k && accepted (onOwn k room) p) in
+    let q = p .quieted || (isQuiet k && isAccepted (onOwn k room) p) in
     ap (λ (x : CallLeaves). after x own q p) (calling-accepted (fedBy k (p .untaken)) (p .at) room (p .area) e)
     ∙ ap (λ (f : Fed). after (finishedCall f (p .at .session) room (p .area)) own q p) (call-accepted k (p .untaken) (p .at .reader) (lawful-record (p .at) (a .lawful) .count))
     ∙ finish-landed (called k (heldOf p) (p .untaken)) p room q (a .wide)

@@ -4,8 +4,9 @@ use mathlib.Core.List.{List, [], _∷_, _++_, append-assoc}
 use Prim.Native.Nat.{ℕ}
 use native.Mathlib.Omega.{arith}
 use lib.ListN.{take}
-use Rattle.frames.specs.Frame.{Bytes, maxFrame, Frame}
-use Rattle.frames.specs.Finished.{padded}
+use Rattle.sequences.specs.Bytes.{Bytes}
+use Rattle.fronts.specs.Frame.{maxFrame, Frame}
+use Rattle.sequences.specs.Padding.{padded}
 use Rattle.frames.specs.Reading.{Reading, reading}
 use Rattle.frames.specs.Series.{Series}
 use Rattle.frames.specs.PlainRun.{plain, Begins}

@@ -1,14 +1,14 @@
--- 01, "Frames from the bench", as one table: for each row the frames fed before, each of which must be answered, then what is done and
+-- 01, "Frames from the bench", as one benchTable: for each benchRow the frames fed before, each of which must be answered, then what is done and
 -- everything that is to be seen of it. The rows behind P8's go on to the end check and its portions (document 02, K5). Assumes nothing.
 use mathlib.Core.Bool.{Bool, true, _&&_}
 use mathlib.Core.List.{List, [], _∷_, _++_}
 use Prim.Native.Nat.{ℕ}
 use lib.Dec.{eqb}
 use lib.ListN.{take, replicate}
-use Rattle.frames.specs.Finished.{zeros}
+use Rattle.sequences.specs.Padding.{zeros}
 use Rattle.transfer.specs.declared.board.Board.{Board}
-use Rattle.transfer.specs.declared.check.Verdict.{Verdict}
-use Rattle.transfer.specs.declared.check.Verdict.the-variants.{Unfinished, Right}
+use Rattle.image.specs.declared.check.Verdict.{Verdict}
+use Rattle.image.specs.declared.check.Verdict.the-variants.{Unfinished, Right}
 use Rattle.session.specs.Boards.{noBoard}
 use Rattle.controller.specs.declared.record.Record.{Record}
 use Rattle.controller.specs.Records.{openedRecord}
@@ -16,15 +16,18 @@ use Rattle.controller.specs.Calls.{fedCall}
 use Rattle.controller.specs.Portions.{portionCall}
 use Rattle.controller.specs.OutwardReport.{reported, roomReported}
 
--- "Board: channel 10, soft 1.0.2, hard 1.0.0, PID all zero, permitted, area 65,536."
-abbrev pub board : Board
-board = record { channel = 10; soft = 1 ∷ 0 ∷ 2 ∷ []; hard = 1 ∷ 0 ∷ 0 ∷ []; pid = zeros 8; permit = true }
+-- "Board: channel 10, soft 1.0.2, hard 1.0.0, PID all zero, permitted, area 65,536." The bench's programs may put it on another channel.
+abbrev pub board : ℕ → Board
+board channel = record { channel = channel; soft = 1 ∷ 0 ∷ 2 ∷ []; hard = 1 ∷ 0 ∷ 0 ∷ []; pid = zeros 8; permit = true }
 
 abbrev pub areaSize : ℕ
 areaSize = 65536
 
+abbrev pub openedOn : ℕ → Record
+openedOn channel = openedRecord (board channel ∷ replicate 9 noBoard) 1 areaSize .next
+
 abbrev pub fresh : Record
-fresh = openedRecord (board ∷ replicate 9 noBoard) 1 areaSize .next
+fresh = openedOn 10
 
 -- feeding some bytes, a portion of the end check, or the outward F9
 pub data Action : Type 0 where
@@ -97,7 +100,7 @@ seenAfter (bytes ∷ more) earlier action r area =
     seenAfter more (earlier && eqb (x .called .outcome) 0) action (x .called .next) (x .area)
 
 abbrev pub got : List ℕ → Row → Seen
-got area row = seenAfter (row .before) true (row .action) fresh area
+got area benchRow = seenAfter (benchRow .before) true (benchRow .action) fresh area
 
 -- "P1 FE request"; "P2 fresh record replies"
 abbrev pub p1 : List ℕ
@@ -161,8 +164,8 @@ abbrev pub stray11 : List ℕ
 stray11 = 0x55 ∷ 0xAA ∷ 0x00 ∷ 0x56 ∷ 0x00 ∷ 0x00 ∷ []
 
 -- before, action, outcome, reply, taken, dropped, command, L
-abbrev pub row : List (List ℕ) → Action → ℕ → List ℕ → ℕ → ℕ → ℕ → ℕ → Row
-row before action outcome reply taken dropped command L =
+abbrev pub benchRow : List (List ℕ) → Action → ℕ → List ℕ → ℕ → ℕ → ℕ → ℕ → Row
+benchRow before action outcome reply taken dropped command L =
     record {
       before = before;
       action = action;
@@ -178,24 +181,24 @@ portionRow before most outcome reply count verdict =
       wanted = record { earlier = true; outcome = outcome; reply = reply; taken = 0; dropped = 0; command = 0; L = 0; count = count; verdict = verdict };
     }
 
-abbrev pub table : List Row
-table =
-    row [] (feeds p1) 0 p2 8 0 0xFE 1
-    ∷ row [] (feeds p3) 0 p4 10 0 0xFA 3
-    ∷ row [] (feeds len15) 0 p5 10 0 0xFA 3
-    ∷ row [] (feeds len16) 0 p4 10 0 0xFA 3
-    ∷ row (p3 ∷ fb9 ∷ []) (feeds p6) 0 p6 12 0 0xFC 5
-    ∷ row (p3 ∷ fb9 ∷ p6 ∷ []) (feeds p7) 0 p8 23 0 0xFD 16
-    ∷ row (p3 ∷ fb9 ∷ p6 ∷ p7 ∷ []) (feeds p7) 0 p8 23 0 0xFD 16
-    ∷ row (p3 ∷ fb9 ∷ p6 ∷ p7 ∷ []) (feeds p1) 0 [] 8 0 0xFE 1
-    ∷ row (p3 ∷ fb9 ∷ p6 ∷ p7 ∷ p1 ∷ []) (feeds p1) 12 [] 8 0 0xFE 1
-    ∷ row (p3 ∷ fb9 ∷ p6 ∷ p7 ∷ p1 ∷ []) (feeds p3) 12 [] 10 0 0xFA 3
-    ∷ row (p3 ∷ fb9 ∷ p6 ∷ p7 ∷ p1 ∷ []) (feeds feOther) 4 [] 8 0 0xFE 1
+abbrev pub benchTable : List Row
+benchTable =
+    benchRow [] (feeds p1) 0 p2 8 0 0xFE 1
+    ∷ benchRow [] (feeds p3) 0 p4 10 0 0xFA 3
+    ∷ benchRow [] (feeds len15) 0 p5 10 0 0xFA 3
+    ∷ benchRow [] (feeds len16) 0 p4 10 0 0xFA 3
+    ∷ benchRow (p3 ∷ fb9 ∷ []) (feeds p6) 0 p6 12 0 0xFC 5
+    ∷ benchRow (p3 ∷ fb9 ∷ p6 ∷ []) (feeds p7) 0 p8 23 0 0xFD 16
+    ∷ benchRow (p3 ∷ fb9 ∷ p6 ∷ p7 ∷ []) (feeds p7) 0 p8 23 0 0xFD 16
+    ∷ benchRow (p3 ∷ fb9 ∷ p6 ∷ p7 ∷ []) (feeds p1) 0 [] 8 0 0xFE 1
+    ∷ benchRow (p3 ∷ fb9 ∷ p6 ∷ p7 ∷ p1 ∷ []) (feeds p1) 12 [] 8 0 0xFE 1
+    ∷ benchRow (p3 ∷ fb9 ∷ p6 ∷ p7 ∷ p1 ∷ []) (feeds p3) 12 [] 10 0 0xFA 3
+    ∷ benchRow (p3 ∷ fb9 ∷ p6 ∷ p7 ∷ p1 ∷ []) (feeds feOther) 4 [] 8 0 0xFE 1
     ∷ portionRow (p3 ∷ fb9 ∷ p6 ∷ p7 ∷ p1 ∷ []) 9 0 success 9 Right
     ∷ portionRow (p3 ∷ fb9 ∷ p6 ∷ p7 ∷ p7 ∷ p1 ∷ []) 10 0 success 9 Right
     ∷ portionRow (p3 ∷ fb9 ∷ p6 ∷ p7 ∷ p1 ∷ []) 8 19 [] 8 Unfinished
     ∷ portionRow [] 9 18 [] 0 Unfinished
-    ∷ row [] reports 0 p9 0 0 0 0
-    ∷ row [] (feeds (stray10 ++ p1)) 0 p2 14 6 0xFE 1
-    ∷ row [] (feeds (stray11 ++ p1)) 2 [] 7 0 0x56 0
+    ∷ benchRow [] reports 0 p9 0 0 0 0
+    ∷ benchRow [] (feeds (stray10 ++ p1)) 0 p2 14 6 0xFE 1
+    ∷ benchRow [] (feeds (stray11 ++ p1)) 2 [] 7 0 0x56 0
     ∷ []

@@ -11,7 +11,7 @@ use Rattle.frames.specs.LiveReading.{fed, quieted}
 use Rattle.commands.specs.Replies.{replySize, replyRoom}
 use Rattle.session.specs.declared.session.Session.{Session}
 use Rattle.session.specs.declared.answer.Answer.{Answer}
-use Rattle.session.specs.Outcomes.{isAnswered, noFrame, shortRoom, otherArea, isUnlawful}
+use Rattle.commands.specs.Outcomes.{accepted, noFrameYet, shortRoom, otherArea, rulesBroken}
 use Rattle.session.specs.Answering.{answered, areaAfter}
 use Rattle.controller.specs.declared.record.Record.{Record}
 use Rattle.controller.specs.declared.call.Called.{Called}
@@ -24,9 +24,9 @@ minRoom = 33
 -- "Calls check 9, 6, 5"; 0 where the call is not refused
 unfoldable pub refusalOf : Record → ℕ → ℕ → ℕ
 refusalOf r room area =
-    cond (unlawfulRecord r) isUnlawful
+    cond (unlawfulRecord r) rulesBroken
     (cond (not (eqb area (r .session .opened))) otherArea
-    (cond (ltb room minRoom) shortRoom isAnswered))
+    (cond (ltb room minRoom) shortRoom accepted))
 
 -- what a call gives, and the room and the area as it leaves them
 pub record CallLeaves : Type 0 where
@@ -64,7 +64,7 @@ answeredCall f a room =
 
 -- outcome 1: "no whole frame yet"; "no reply; record differs in held bytes only"
 abbrev pub waitingCall : Fed → Session → Called
-waitingCall f s = record { outcome = noFrame; «reply_length» = 0; taken = f .taken; dropped = f .dropped; command = 0; «data_length» = 0; next = record { reader = f .next; session = s } }
+waitingCall f s = record { outcome = noFrameYet; «reply_length» = 0; taken = f .taken; dropped = f .dropped; command = 0; «data_length» = 0; next = record { reader = f .next; session = s } }
 
 unfoldable pub finishedCall : Fed → Session → List ℕ → List ℕ → CallLeaves
 finishedCall f s room area =
@@ -77,7 +77,7 @@ finishedCall f s room area =
 unfoldable pub calledBy : (Reader → Fed) → Record → List ℕ → List ℕ → CallLeaves
 calledBy reads r room area =
     let code = refusalOf r (length room) (length area) in
-    cond (eqb code isAnswered) (finishedCall (reads (r .reader)) (r .session) room area) (record { called = refusedCall code r; room = room; area = area })
+    cond (eqb code accepted) (finishedCall (reads (r .reader)) (r .session) room area) (record { called = refusedCall code r; room = room; area = area })
 
 -- feeding some bytes
 abbrev pub fedCall : List ℕ → Record → List ℕ → List ℕ → CallLeaves

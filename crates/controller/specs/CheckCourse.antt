@@ -10,11 +10,11 @@ use lib.Dec.{ltb, eqb}
 use lib.ListN.{length, take, replicate}
 use Rattle.frames.specs.declared.finished.FinishedFrame.{FinishedFrame}
 use Rattle.frames.specs.LiveReading.{Call, fedBy}
-use Rattle.transfer.specs.declared.check.Verdict.{Verdict}
-use Rattle.transfer.specs.declared.check.Verdict.the-variants.{Unfinished, Right, Wrong}
+use Rattle.image.specs.declared.check.Verdict.{Verdict}
+use Rattle.image.specs.declared.check.Verdict.the-variants.{Unfinished, Right, Wrong}
 use Rattle.transfer.specs.Portions.{unread}
 use Rattle.session.specs.declared.session.Session.{Session}
-use Rattle.session.specs.Outcomes.{isAnswered, unlistedCommand, wrongHeader, unlistedChannel, checkRuns}
+use Rattle.commands.specs.Outcomes.{accepted, unlistedCommand, wrongHeader, unlistedChannel, checkRuns}
 use Rattle.session.specs.Answering.{placeFor, byHeader, headerOfFrame}
 use Rattle.controller.specs.declared.record.Record.{Record}
 use Rattle.controller.specs.Records.{unlawfulRecord, isChecking}
@@ -66,12 +66,12 @@ WhileChecking =
 abbrev pub metBy : Session → FinishedFrame → ℕ
 metBy s f =
     byHeader (headerOfFrame f) unlistedCommand wrongHeader
-    (cond (eqb (f .command) 0xF9) isAnswered (cond (ltb (placeFor s f) (s .count)) checkRuns unlistedChannel))
+    (cond (eqb (f .command) 0xF9) accepted (cond (ltb (placeFor s f) (s .count)) checkRuns unlistedChannel))
 
 abbrev pub FrameMeetsCheck : Type 0
 FrameMeetsCheck =
     (call : Call) (untaken : List ℕ) (r : Record) (room area : List ℕ)
-    → refusalOf r (length room) (length area) ≡ isAnswered → isChecking r ≡ true
+    → refusalOf r (length room) (length area) ≡ accepted → isChecking r ≡ true
     → let f = fedBy call untaken (r .reader) in
     f .found ≡ true → calledBy (fedBy call untaken) r room area .called .outcome ≡ metBy (r .session) (f .frame)
 
@@ -80,7 +80,7 @@ abbrev pub OnlyWhileChecking : Type 0
 OnlyWhileChecking =
     (call : Call) (untaken : List ℕ) (r : Record) (room area : List ℕ)
     → calledBy (fedBy call untaken) r room area .called .outcome ≡ checkRuns
-    → (refusalOf r (length room) (length area) ≡ isAnswered) × ((fedBy call untaken (r .reader) .found ≡ true) × (isChecking r ≡ true))
+    → (refusalOf r (length room) (length area) ≡ accepted) × ((fedBy call untaken (r .reader) .found ≡ true) × (isChecking r ≡ true))
 
 -- ---- what comes of them
 

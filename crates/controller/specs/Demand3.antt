@@ -8,7 +8,8 @@ use mathlib.Core.List.{List, [], _∷_, _++_}
 use Prim.Native.Nat.{ℕ, _+_}
 use lib.Dec.{eqb}
 use lib.ListN.{length, drop}
-use Rattle.frames.specs.Frame.{Bytes, Frame, encode}
+use Rattle.sequences.specs.Bytes.{Bytes}
+use Rattle.fronts.specs.Frame.{Frame, encode}
 use Rattle.frames.specs.Finished.{finished}
 use Rattle.frames.specs.LiveReading.{Call, feeding, quiet, fedBy, due}
 use Rattle.frames.specs.Series.{Series}
@@ -16,7 +17,7 @@ use Rattle.frames.specs.PlainRun.{Plain, plain, Begins}
 use Rattle.commands.specs.Replies.{replyFrame}
 use Rattle.session.specs.declared.session.Session.{Session}
 use Rattle.session.specs.declared.answer.Answer.{Answer}
-use Rattle.session.specs.Outcomes.{isAnswered}
+use Rattle.commands.specs.Outcomes.{accepted}
 use Rattle.session.specs.Answering.{areaAfter}
 use Rattle.session.specs.OneGo.{inOneGo}
 use Rattle.controller.specs.declared.record.Record.{Record}
@@ -100,8 +101,8 @@ abbrev pub portionLeavesOf : ℕ → Listed → Place → PortionLeaves
 portionLeavesOf most c p = portionCall most (p .at) (c .room) (lent (c .lends) (p .area))
 
 -- neither 9 nor 6 nor 5
-abbrev pub accepted : Listed → Place → Bool
-accepted c p = eqb (refusalOf (p .at) (length (c .room)) (length (lent (c .lends) (p .area)))) isAnswered
+abbrev pub isAccepted : Listed → Place → Bool
+isAccepted c p = eqb (refusalOf (p .at) (length (c .room)) (length (lent (c .lends) (p .area)))) accepted
 
 abbrev pub isQuiet : Call → Bool
 isQuiet (feeding n) = false
@@ -131,7 +132,7 @@ afterPortion x p =
     }
 
 abbrev pub nextBy : CallKind → Listed → Place → Place
-nextBy (lineCall k) c p = after (leavesOf k c p) (c .lends) (p .quieted || (isQuiet k && accepted c p)) p
+nextBy (lineCall k) c p = after (leavesOf k c p) (c .lends) (p .quieted || (isQuiet k && isAccepted c p)) p
 nextBy (portion most) c p = afterPortion (portionLeavesOf most c p) p
 
 abbrev pub next : Listed → Place → Place
@@ -153,7 +154,7 @@ dueBy (lineCall k) p = due k (p .untaken) × (checking p ≡ false)
 dueBy (portion most) p = Unit
 
 abbrev pub Allowed : Listed → Place → Type 0
-Allowed c p = ofOtherLength (c .lends) p × (accepted c p ≡ true → dueBy (c .kind) p)
+Allowed c p = ofOtherLength (c .lends) p × (isAccepted c p ≡ true → dueBy (c .kind) p)
 
 abbrev pub AllAllowed : List Listed → Place → Type 0
 AllAllowed [] p = Unit

@@ -9,13 +9,13 @@ use Prim.Native.Nat.{ℕ, _≤_, _<_}
 use lib.Dec.{ltb}
 use lib.ListN.{length}
 use Rattle.frames.specs.declared.finished.FinishedFrame.{FinishedFrame}
-use Rattle.frames.specs.Frame.{encode}
+use Rattle.fronts.specs.Frame.{encode}
 use Rattle.frames.specs.LiveReading.{Call, fedBy}
 use Rattle.commands.specs.Replies.{replyFrame}
-use Rattle.transfer.specs.declared.check.Verdict.the-variants.{Unfinished, Right, Wrong}
-use Rattle.transfer.specs.FE.{reachesCrc, rightCrc}
-use Rattle.transfer.specs.Portions.{unread}
-use Rattle.session.specs.Outcomes.{isAnswered, unlistedChannel, checkRuns}
+use Rattle.image.specs.declared.check.Verdict.the-variants.{Unfinished, Right, Wrong}
+use Rattle.transfer.specs.FE.{reachesCrc}
+use Rattle.transfer.specs.Portions.{unread, rightCrc}
+use Rattle.commands.specs.Outcomes.{accepted, unlistedChannel, checkRuns}
 use Rattle.session.specs.Answering.{placeFor}
 use Rattle.session.specs.OneGo.{inOneGo}
 use Rattle.session.specs.EndRequest.{IsEndRequest, Complete}
@@ -31,7 +31,7 @@ successFrame channel = stateFrame channel 0
 
 -- "starts a check (outcome 0, no reply)": the record is lawful, and nothing of the image is read
 pub record Starts (r : Record) (y : CallLeaves) : Type 0 where
-  pub outcome : y .called .outcome ≡ isAnswered
+  pub outcome : y .called .outcome ≡ accepted
   pub no-reply : y .called .«reply_length» ≡ 0
   pub lawful : unlawfulRecord (y .called .next) ≡ false
   pub runs : isChecking (y .called .next) ≡ true
@@ -77,7 +77,7 @@ pub record EndAnswered (r : Record) (f : FinishedFrame) (channel : ℕ) (area : 
 abbrev pub EndRequestCalls : Type 0
 EndRequestCalls =
     (call : Call) (untaken : List ℕ) (r : Record) (channel : ℕ) (room area : List ℕ)
-    → refusalOf r (length room) (length area) ≡ isAnswered → isChecking r ≡ false
+    → refusalOf r (length room) (length area) ≡ accepted → isChecking r ≡ false
     → let f = fedBy call untaken (r .reader) in
     f .found ≡ true → IsEndRequest (f .frame) channel → EndAnswered r (f .frame) channel area (calledBy (fedBy call untaken) r room area)
 
@@ -85,7 +85,7 @@ EndRequestCalls =
 abbrev pub EndRequestMeetsCheck : Type 0
 EndRequestMeetsCheck =
     (call : Call) (untaken : List ℕ) (r : Record) (channel : ℕ) (room area : List ℕ)
-    → refusalOf r (length room) (length area) ≡ isAnswered → isChecking r ≡ true
+    → refusalOf r (length room) (length area) ≡ accepted → isChecking r ≡ true
     → let f = fedBy call untaken (r .reader) in
     let c = calledBy (fedBy call untaken) r room area .called in
     f .found ≡ true → IsEndRequest (f .frame) channel

@@ -7,19 +7,20 @@ use mathlib.Core.List.{List, [], _∷_, _++_}
 use Prim.Native.Nat.{ℕ, _+_, _≤_, _<_}
 use lib.ListN.{length, drop}
 use lib.Seq.{slice}
-use Rattle.frames.specs.Frame.{Bytes, encode}
+use Rattle.fronts.specs.Frame.{encode}
 use Rattle.frames.specs.LiveReading.{Call, heldBytes, holding, called, fedBy}
 use Rattle.commands.specs.Replies.{replyState}
-use Rattle.transfer.specs.declared.check.Check.{Check}
+use Rattle.image.specs.declared.check.Check.{Check}
 use Rattle.transfer.specs.declared.board.Board.{Board}
-use Rattle.transfer.specs.declared.check.Verdict.{Verdict}
-use Rattle.transfer.specs.declared.check.Verdict.the-variants.{Unfinished, Right, Wrong}
+use Rattle.image.specs.declared.check.Verdict.{Verdict}
+use Rattle.image.specs.declared.check.Verdict.the-variants.{Unfinished, Right, Wrong}
 use Rattle.transfer.specs.declared.state.Transfer.{Transfer}
-use Rattle.transfer.specs.Transfers.{noCheck, withCheck}
-use Rattle.transfer.specs.Portions.{portionSize, readOn, verdictOf, stepBy}
+use Rattle.image.specs.Checks.{noCheck, portionSize, readOn, verdictOf}
+use Rattle.transfer.specs.Transfers.{withCheck}
+use Rattle.transfer.specs.Portions.{unread, stepBy}
 use Rattle.session.specs.declared.session.Session.{Session}
 use Rattle.session.specs.Boards.{maxBoards}
-use Rattle.session.specs.Outcomes.{isAnswered, shortRoom, otherArea, isUnlawful, noCheckRuns, isUnfinished}
+use Rattle.commands.specs.Outcomes.{accepted, shortRoom, otherArea, rulesBroken, noCheckRuns, unfinished}
 use Rattle.session.specs.Checking.{outcomeOf}
 use Rattle.controller.specs.declared.record.Record.{Record}
 use Rattle.controller.specs.Records.{unlawfulRecord, isChecking, openedRecord}
@@ -41,16 +42,16 @@ pub record SessionUnchanged (r : Record) (room area : List ℕ) (x : CallLeaves)
 
 -- "as 5"
 abbrev pub IsRefusal : ℕ → Type 0
-IsRefusal n = (n ≡ shortRoom) ⊎ ((n ≡ otherArea) ⊎ (n ≡ isUnlawful))
+IsRefusal n = (n ≡ shortRoom) ⊎ ((n ≡ otherArea) ⊎ (n ≡ rulesBroken))
 
 -- of a call on the record r, the bytes `rest` being not yet taken
 pub record OutcomesLeave (c : Call) (rest : List ℕ) (r : Record) (room area : List ℕ) (x : CallLeaves) : Type 0 where
   -- "Outcome 9 is given exactly when" the record breaks its rules
-  pub nine : (x .called .outcome ≡ isUnlawful) ↔ (unlawfulRecord r ≡ true)
+  pub nine : (x .called .outcome ≡ rulesBroken) ↔ (unlawfulRecord r ≡ true)
   pub refused : IsRefusal (x .called .outcome) → AllUnchanged r room area x
   -- "A call with any other outcome leaves zeros past the held bytes."
   pub holds : (IsRefusal (x .called .outcome) → ⊥) → x .called .next .reader ≡ holding (called c (heldBytes (r .reader)) rest .held)
-  pub unanswered : (IsRefusal (x .called .outcome) → ⊥) → (x .called .outcome ≡ isAnswered → ⊥) → SessionUnchanged r room area x
+  pub unanswered : (IsRefusal (x .called .outcome) → ⊥) → (x .called .outcome ≡ accepted → ⊥) → SessionUnchanged r room area x
 
 abbrev pub Leaving : Type 0
 Leaving = (c : Call) (rest : List ℕ) (r : Record) (room area : List ℕ) → OutcomesLeave c rest r room area (calledBy (fedBy c rest) r room area)
@@ -80,9 +81,9 @@ verdictState Wrong = 3
 -- a portion call that is not refused, on a running check of the transfer t
 pub record Counted (most : ℕ) (t : Transfer) (area : List ℕ) (x : PortionLeaves) : Type 0 where
   -- "the smaller of the largest number and what is left unread": as many bytes as the definition's check reads on by
-  pub amount : x .called .count ≡ portionSize t most
+  pub amount : x .called .count ≡ portionSize most (unread t)
   pub bytes : x .called .count ≡ length (slice (t .check .read) (t .check .read + x .called .count) area)
-  pub says : x .called .verdict ≡ verdictOf t (readOn (t .check) (x .called .count) area)
+  pub says : x .called .verdict ≡ verdictOf (readOn (t .check) (x .called .count) area) (t .image .announced) (t .image .crc)
   -- what becomes of the transfer, "FE's changes" included
   pub becomes : x .called .next .session .transfer ≡ stepBy (x .called .verdict) t (readOn (t .check) (x .called .count) area) .transfer
   -- 0 with the verdict, "before that it is 19"
@@ -90,7 +91,7 @@ pub record Counted (most : ℕ) (t : Transfer) (area : List ℕ) (x : PortionLea
 
 pub record PortionOutcomes (most : ℕ) (r : Record) (room area : List ℕ) (x : PortionLeaves) : Type 0 where
   -- "refuse 9, 6, 5, then 18 when no check runs": each where those before it are not given
-  pub nine : (x .called .outcome ≡ isUnlawful) ↔ (unlawfulRecord r ≡ true)
+  pub nine : (x .called .outcome ≡ rulesBroken) ↔ (unlawfulRecord r ≡ true)
   pub six : unlawfulRecord r ≡ false → (x .called .outcome ≡ otherArea) ↔ (length area ≡ r .session .opened → ⊥)
   pub five : unlawfulRecord r ≡ false → length area ≡ r .session .opened → (x .called .outcome ≡ shortRoom) ↔ (length room < minRoom)
   pub eighteen : unlawfulRecord r ≡ false → length area ≡ r .session .opened → minRoom ≤ length room
@@ -98,20 +99,20 @@ pub record PortionOutcomes (most : ℕ) (r : Record) (room area : List ℕ) (x :
   -- "count 0, unfinished, nothing changed"
   pub refused : IsPortionRefusal (x .called .outcome) → x ≡ record { called = refusedPortion (x .called .outcome) r; room = room }
   -- 19: no reply, and the check's own fields alone change
-  pub unfinished : x .called .outcome ≡ isUnfinished
+  pub unfinished : x .called .outcome ≡ unfinished
       → (x .called .«reply_length» ≡ 0) × ((x .room ≡ room)
       × (x .called .next ≡ record { reader = r .reader; session = checkingOn (r .session) (x .called .next .session .transfer .check) }))
   -- "The call that reads the last byte gives the verdict and FE's reply .. and zeroes the check's own fields (outcome 0)"
-  pub finished : x .called .outcome ≡ isAnswered
+  pub finished : x .called .outcome ≡ accepted
       → (x .called .next .session .transfer .check ≡ noCheck)
-      × (replyIn (x .called .«reply_length») (x .room) ≡ stateFrame (r .session .transfer .channel) (verdictState (x .called .verdict)) ∷ [])
+      × (replyIn (x .called .«reply_length») (x .room) ≡ stateFrame (r .session .transfer .leg .channel) (verdictState (x .called .verdict)) ∷ [])
   -- "Room past a reply .. stay"
-  pub past-reply : x .called .outcome ≡ isAnswered
-      → x .room ≡ stateFrame (r .session .transfer .channel) (verdictState (x .called .verdict)) ++ drop (x .called .«reply_length») room
+  pub past-reply : x .called .outcome ≡ accepted
+      → x .room ≡ stateFrame (r .session .transfer .leg .channel) (verdictState (x .called .verdict)) ++ drop (x .called .«reply_length») room
   -- list and opened length stay on every outcome
   pub same-list : x .called .next .session ≡ sessionWith (r .session) (x .called .next .session .transfer)
   -- "reports how many image bytes it read in this call"
-  pub counted : refusalOf r (length room) (length area) ≡ isAnswered → isChecking r ≡ true
+  pub counted : refusalOf r (length room) (length area) ≡ accepted → isChecking r ≡ true
       → Counted most (r .session .transfer) area x
   -- "Portion calls leave what stands past the held bytes", and the held ones
   pub same-reader : x .called .next .reader ≡ r .reader
@@ -123,10 +124,9 @@ PortionLeaving = (most : ℕ) (r : Record) (room area : List ℕ) → PortionOut
 
 -- what is held and fed are bytes, so that a packet's number is below 65,536
 pub record LawfulKept : Type 0 where
-  pub by-opening : (bs : List Board) (n area : ℕ) → length bs ≡ maxBoards → openedRecord bs n area .outcome ≡ isAnswered
+  pub by-opening : (bs : List Board) (n area : ℕ) → length bs ≡ maxBoards → openedRecord bs n area .outcome ≡ accepted
       → unlawfulRecord (openedRecord bs n area .next) ≡ false
-  pub by-reading : (c : Call) (rest : List ℕ) (r : Record) (room area : List ℕ) → Bytes (heldBytes (r .reader)) → Bytes rest
-      → unlawfulRecord r ≡ false
+  pub by-reading : (c : Call) (rest : List ℕ) (r : Record) (room area : List ℕ) → unlawfulRecord r ≡ false
       → unlawfulRecord (calledBy (fedBy c rest) r room area .called .next) ≡ false
   pub by-portion : (most : ℕ) (r : Record) (room area : List ℕ) → unlawfulRecord r ≡ false
       → unlawfulRecord (portionCall most r room area .called .next) ≡ false

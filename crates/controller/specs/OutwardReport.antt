@@ -6,8 +6,8 @@ use mathlib.Core.List.{List, _++_}
 use Prim.Native.Nat.{ℕ, _+_, _*_}
 use lib.Dec.{ltb, eqb}
 use lib.ListN.{length, drop}
-use Rattle.frames.specs.Frame.{encode}
-use Rattle.session.specs.Outcomes.{isAnswered, isUnlawful, shortReportRoom}
+use Rattle.fronts.specs.Frame.{encode}
+use Rattle.commands.specs.Outcomes.{accepted, rulesBroken, shortReportRoom}
 use Rattle.session.specs.Report.{reportFrame}
 use Rattle.controller.specs.declared.record.Record.{Record}
 use Rattle.controller.specs.declared.report.Reported.{Reported}
@@ -18,15 +18,15 @@ abbrev pub reportLength : Record → ℕ
 reportLength r = 8 + 7 * r .session .count
 
 unfoldable pub reportRefusal : Record → ℕ → ℕ
-reportRefusal r room = cond (unlawfulRecord r) isUnlawful (cond (ltb room (reportLength r)) shortReportRoom isAnswered)
+reportRefusal r room = cond (unlawfulRecord r) rulesBroken (cond (ltb room (reportLength r)) shortReportRoom accepted)
 
 unfoldable pub reported : Record → List ℕ → Reported
 reported r room =
     let code = reportRefusal r (length room) in
-    record { outcome = code; length = cond (eqb code isAnswered) (reportLength r) 0 }
+    record { outcome = code; length = cond (eqb code accepted) (reportLength r) 0 }
 
 unfoldable pub roomReported : Record → List ℕ → List ℕ
-roomReported r room = cond (eqb (reportRefusal r (length room)) isAnswered) (encode (reportFrame (r .session)) ++ drop (reportLength r) room) room
+roomReported r room = cond (eqb (reportRefusal r (length room)) accepted) (encode (reportFrame (r .session)) ++ drop (reportLength r) room) room
 
 pub record ReportLeaves (r : Record) (room : List ℕ) (x : Reported) (after : List ℕ) : Type 0 where
   pub gives : x ≡ reported r room

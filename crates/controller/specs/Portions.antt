@@ -6,9 +6,9 @@ use Prim.Native.Nat.{ℕ}
 use lib.Dec.{eqb}
 use lib.ListN.{length}
 use Rattle.frames.specs.LiveReading.{Call}
-use Rattle.transfer.specs.declared.check.Verdict.the-variants.{Unfinished}
+use Rattle.image.specs.declared.check.Verdict.the-variants.{Unfinished}
 use Rattle.session.specs.declared.check.Checked.{Checked}
-use Rattle.session.specs.Outcomes.{isAnswered}
+use Rattle.commands.specs.Outcomes.{accepted}
 use Rattle.session.specs.Checking.{checked}
 use Rattle.controller.specs.declared.record.Record.{Record}
 use Rattle.controller.specs.declared.portion.Portioned.{Portioned}
@@ -46,7 +46,7 @@ checkedPortion c r room =
 unfoldable pub portionCall : ℕ → Record → List ℕ → List ℕ → PortionLeaves
 portionCall most r room area =
     let code = refusalOf r (length room) (length area) in
-    cond (eqb code isAnswered) (checkedPortion (checked (r .session) most area) r room)
+    cond (eqb code accepted) (checkedPortion (checked (r .session) most area) r room)
     (record { called = refusedPortion code r; room = room })
 
 -- a call of a list: feeding, offered a first part of the bytes not yet taken, or quiet; or a portion, with its largest number

@@ -3,7 +3,7 @@ use mathlib.Core.Bool.{Bool, _||_}
 use mathlib.Core.List.{List, []}
 use Prim.Native.Nat.{ℕ}
 use lib.Dec.{ltb}
-use Rattle.frames.specs.Frame.{maxFrame}
+use Rattle.fronts.specs.Frame.{maxFrame}
 use Rattle.frames.specs.LiveReading.{holding}
 use Rattle.transfer.specs.declared.board.Board.{Board}
 use Rattle.session.specs.declared.session.Session.{Session}

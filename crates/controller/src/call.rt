@@ -1,15 +1,17 @@
 // Feeding and quiet.
 use crate::record::Record;
+use commands::outcome;
 use commands::reply;
+use commands::reply::MAX_REPLY;
 use frames::reader::Fed;
-use session::outcome;
+use fronts::OVERHEAD;
 use session::session::Session;
 ghost use mathlib.Core.Path.{_≡_};
 ghost use Rattle.frames.specs.LiveReading.{fed, quieted};
 ghost use Rattle.controller.specs.Calls.{refusalOf, refusedCall, replySizeOf, ReplyLeft, finishedCall, fedCall, quietedCall, Leaves};
 
 // The least room for a reply: the longest one, FB's.
-pub const MIN_ROOM: usize = 33;
+pub const MIN_ROOM: usize = OVERHEAD + MAX_REPLY;
 
 // What a call gives. The reply is the first `reply_length` bytes of the room; `command` and `data_length` are the frame's.
 pub struct Called {
@@ -28,7 +30,7 @@ impl Record {
         ensures { λ c. ⌜ Leaves (fedCall (now (input .entry)) self (now (room .entry)) (now (area .entry))) c (now (room .exit)) (now (area .exit)) ⌝ }
     {
         let code = refusal(self, room.len(), area.len());
-        if code != outcome::ANSWERED {
+        if code != outcome::ACCEPTED {
             return refused(self, code);
         }
         let reader = self.reader;
@@ -42,7 +44,7 @@ impl Record {
         ensures { λ c. ⌜ Leaves (quietedCall self (now (room .entry)) (now (area .entry))) c (now (room .exit)) (now (area .exit)) ⌝ }
     {
         let code = refusal(self, room.len(), area.len());
-        if code != outcome::ANSWERED {
+        if code != outcome::ACCEPTED {
             return refused(self, code);
         }
         let reader = self.reader;
@@ -57,7 +59,7 @@ pub(crate) fn refusal(r: Record, room: usize, area: usize) -> u8
     ensures { λ k. ⌜ k ≡ refusalOf r room area ⌝ }
 {
     if r.unlawful() {
-        return outcome::UNLAWFUL;
+        return outcome::RULES_BROKEN;
     }
     let session = r.session;
     if area != session.opened {
@@ -66,7 +68,7 @@ pub(crate) fn refusal(r: Record, room: usize, area: usize) -> u8
     if room < MIN_ROOM {
         return outcome::SHORT_ROOM;
     }
-    outcome::ANSWERED
+    outcome::ACCEPTED
 }
 
 // Nothing is taken and nothing changes.
@@ -109,7 +111,7 @@ fn finish(f: Fed, session: Session, room: &mut [u8], area: &mut [u8]) -> Called
         };
     }
     Called {
-        outcome: outcome::NO_FRAME,
+        outcome: outcome::NO_FRAME_YET,
         reply_length: 0,
         taken: f.taken,
         dropped: f.dropped,
@@ -120,7 +122,12 @@ fn finish(f: Fed, session: Session, room: &mut [u8], area: &mut [u8]) -> Called
 }
 
 // Writes the reply to the front of the room, where there is one.
-pub(crate) fn write_reply(replies: bool, command: u8, data: [u8; 26], room: &mut [u8]) -> usize
+pub(crate) fn write_reply(
+    replies: bool,
+    command: u8,
+    data: [u8; MAX_REPLY],
+    room: &mut [u8],
+) -> usize
     ensures { λ r. ⌜ ReplyLeft replies command «data» (now (room .entry)) r (now (room .exit)) ⌝ }
 {
     if replies {

@@ -1,7 +1,7 @@
 // Opening of the record.
 use crate::record::Record;
-use frames::MAX_FRAME;
 use frames::reader::Reader;
+use fronts::MAX_FRAME;
 use session::list::MAX_BOARDS;
 use session::session::Session;
 use transfer::board::Board;

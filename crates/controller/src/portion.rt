@@ -2,10 +2,10 @@
 use crate::call::refusal;
 use crate::call::write_reply;
 use crate::record::Record;
+use commands::outcome;
 use commands::table;
+use image::check::Verdict;
 use session::check::Checked;
-use session::outcome;
-use transfer::check::Verdict;
 ghost use mathlib.Core.Path.{_≡_};
 ghost use Rattle.controller.specs.Portions.{refusedPortion, portionedBy, portionCall, PortionLeft};
 
@@ -25,7 +25,7 @@ impl Record {
         ensures { λ p. ⌜ PortionLeft (portionCall most self (now (room .entry)) (now (area .entry))) p (now (room .exit)) ⌝ }
     {
         let code = refusal(self, room.len(), area.len());
-        if code != outcome::ANSWERED {
+        if code != outcome::ACCEPTED {
             return refused(self, code);
         }
         let session = self.session;

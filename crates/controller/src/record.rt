@@ -1,6 +1,6 @@
 // The record by value.
-use frames::MAX_FRAME;
 use frames::reader::Reader;
+use fronts::MAX_FRAME;
 use session::session::Session;
 ghost use mathlib.Core.Path.{_≡_};
 ghost use Rattle.controller.specs.Records.{unlawfulRecord, isChecking};

@@ -1,6 +1,6 @@
 // The outward F9.
 use crate::record::Record;
-use session::outcome;
+use commands::outcome;
 ghost use Rattle.controller.specs.OutwardReport.{ReportLeaves};
 
 // Bytes of a report besides its boards, and of each board.
@@ -20,7 +20,7 @@ impl Record {
     {
         if self.unlawful() {
             return Reported {
-                outcome: outcome::UNLAWFUL,
+                outcome: outcome::RULES_BROKEN,
                 length: 0,
             };
         }
@@ -32,7 +32,7 @@ impl Record {
             };
         }
         Reported {
-            outcome: outcome::ANSWERED,
+            outcome: outcome::ACCEPTED,
             length: session.report(room),
         }
     }

@@ -7,17 +7,15 @@ use native.Mathlib.Nat.{add-zero}
 use native.Mathlib.Numerals.{add-one}
 use native.Mathlib.Omega.{arith}
 use lib.Bits.{bitXor, xor-self, xor-zero-l, xor-zero-r, xor-lt}
-use lib.ListN.{length, take, drop, getD, set, replicate, length-append, length-drop, length-set, length-replicate}
-use lib.ListN.{replicate-append-replicate}
-use lib.Seq.{paste, length-paste, sets, sets-eq, take-at, drop-at, take-set-le, drop-set-add, drop-cons, take-take, take-add}
-use lib.Seq.{take-all, take-append-le, length-take-le, getD-drop, getD-set-same, getD-set-other}
-use Rattle.crc.specs.Crc.{Kind, byte, update}
+use lib.ListN.{length, take, drop, getD, set, replicate, length-append, length-drop, length-set, length-replicate, replicate-append-replicate}
+use lib.Seq.{paste, length-paste, sets, sets-eq, take-at, drop-at, take-set-le, drop-set-add, drop-cons, take-take, take-add, take-append-le, length-take-le, getD-drop, getD-set-same, getD-set-other}
+use Rattle.crc.specs.Crc.{Kind, byteStep, update}
 use Rattle.crc.specs.Tables.{zeroBytes}
 use Rattle.crc.specs.Folding.{sumOver, Within, Multiple, gathered, swept, unswept, standing, Stands, Carries, met, unmet}
 use Rattle.crc.proofs.Xor.{xor-assoc, xor-medial}
 use Rattle.crc.proofs.Linear.{byte-none, byte-sum, update-from}
 use Rattle.crc.proofs.Meeting.{length-met, update-met}
-use Rattle.crc.proofs.Updates.{update-none, update-append, update-next, update-rest, update-skip}
+use Rattle.crc.proofs.Updates.{update-none, update-append, update-next, update-rest}
 
 -- each of them is a byte
 abbrev pub BytesAt : List ℕ → Type 0
@@ -66,7 +64,7 @@ module _ (k : Kind) (d : ℕ) (offs : List ℕ) (w : Within 1 d offs) where
   -- ---- what swept bytes stand for
 
   sum-next : (os b : List ℕ) → Within 1 d os → (p : ℕ) → d ≤ p → p ≤ length b
-      → byte k (sumOver os (λ (a : ℕ). update k 0 (take (p - a) b))) (gathered os b p) ≡ sumOver os
+      → byteStep k (sumOver os (λ (a : ℕ). update k 0 (take (p - a) b))) (gathered os b p) ≡ sumOver os
       (λ (a : ℕ). update k 0 (take (p + 1 - a) b))
   sum-next [] b v p h l = byte-none k
   sum-next (a ∷ os) b v p h l =
@@ -79,7 +77,7 @@ module _ (k : Kind) (d : ℕ) (offs : List ℕ) (w : Within 1 d offs) where
 
   -- one swept byte more: by linearity alone
   standing-next : (b : List ℕ) (p : ℕ) → d ≤ p → p < length b
-      → byte k (standing k offs p b) (bitXor (getD b p 0) (gathered offs b p)) ≡ standing k offs (p + 1) b
+      → byteStep k (standing k offs p b) (bitXor (getD b p 0) (gathered offs b p)) ≡ standing k offs (p + 1) b
   standing-next b p h l =
       byte-sum k (update k 0 (take p b)) (sumOver offs (λ (a : ℕ). update k 0 (take (p - a) b))) (getD b p 0) (gathered offs b p)
       ∙ ap₂ bitXor (update-next k 0 b p l refl) (sum-next offs b w p h (omega arith))
@@ -108,7 +106,7 @@ module _ (k : Kind) (d : ℕ) (offs : List ℕ) (w : Within 1 d offs) where
   first-gone : Multiple k d offs → (c : ℕ) (b : List ℕ) → c < 256 → d ≤ length b → standing k offs (suc d) (c ∷ b) ≡ standing k offs d b
   unfolding Multiple update
   first-gone multiple c b small l =
-      let y = byte k 0 c in
+      let y = byteStep k 0 c in
       let after : (n : ℕ) → n ≤ d → update k y (take n b) ≡ bitXor (zeroBytes k n y) (update k 0 (take n b)) =
       λ n h. update-from k y (take n b)
       ∙ ap (λ (m : ℕ). bitXor (zeroBytes k m y) (update k 0 (take n b))) (length-take-le n b (omega arith)) in
@@ -126,7 +124,8 @@ module _ (k : Kind) (d : ℕ) (offs : List ℕ) (w : Within 1 d offs) where
 
   -- one byte on: the d bytes from i + 1 on stand for the register of those from i on, after the byte that was swept in behind these
   slide : Multiple k d offs → (b : List ℕ) → BytesAt b → (i : ℕ) → i + d < length b
-      → byte k (standing k offs d (drop i b)) (bitXor (getD b (i + d) 0) (gathered offs b (i + d))) ≡ standing k offs d (drop (i + 1) b)
+      → byteStep k (standing k offs d (drop i b)) (bitXor (getD b (i + d) 0) (gathered offs b (i + d)))
+      ≡ standing k offs d (drop (i + 1) b)
   slide multiple b small i l =
       let c = drop i b in
       let long : d < length c = rw length-drop (omega arith) in
@@ -135,7 +134,7 @@ module _ (k : Kind) (d : ℕ) (offs : List ℕ) (w : Within 1 d offs) where
       (λ a one most.
       let place : i + d - a ≡ i + (d - a) = omega arith in
       ap (λ (x : ℕ). getD b x 0) place ∙ sym (getD-drop i b (d - a) 0)) in
-      ap₂ (λ (x y : ℕ). byte k (standing k offs d c) (bitXor x y)) (sym (getD-drop i b d 0)) same
+      ap₂ (λ (x y : ℕ). byteStep k (standing k offs d c) (bitXor x y)) (sym (getD-drop i b d 0)) same
       ∙ standing-next c d (omega arith) long
       ∙ ap₂ (standing k offs) (add-one d) (drop-cons b i 0 (omega arith))
       ∙ first-gone multiple (getD b i 0) (drop (suc i) b) (small i) more
@@ -156,7 +155,7 @@ module _ (k : Kind) (d : ℕ) (offs : List ℕ) (w : Within 1 d offs) where
 
   -- one byte more
   swept-next : Multiple k d offs → (b : List ℕ) → BytesAt b → (i x : ℕ) → x < 256 → i + d < length b
-      → standing k offs d (drop (i + 1) (set b (i + d) (bitXor x (gathered offs b (i + d))))) ≡ byte k (standing k offs d (drop i b)) x
+      → standing k offs d (drop (i + 1) (set b (i + d) (bitXor x (gathered offs b (i + d))))) ≡ byteStep k (standing k offs d (drop i b)) x
   swept-next multiple b small i x less l =
       let p = i + d in
       let g = gathered offs b p in
@@ -167,7 +166,7 @@ module _ (k : Kind) (d : ℕ) (offs : List ℕ) (w : Within 1 d offs) where
       (λ a one most. getD-set-other b p (p - a) (bitXor x g) 0 (λ e. absurd (omega (arith, e)))) in
       let back : bitXor (bitXor x g) g ≡ x = xor-assoc x g g ∙ ap (bitXor x) (xor-self g) ∙ xor-zero-r x in
       sym (slide multiple c (swept-byte b small p x less) i (rw length-set l))
-      ∙ ap₂ (byte k) kept (ap₂ bitXor (getD-set-same b p (bitXor x g) 0 l) same ∙ back)
+      ∙ ap₂ (byteStep k) kept (ap₂ bitXor (getD-set-same b p (bitXor x g) 0 l) same ∙ back)
 
   -- all of s: what the d bytes before place i + d stand for, and those at its end
   pub swept-standing : Multiple k d offs → (s b : List ℕ) → BytesAt s → BytesAt b → (i : ℕ) → i + d + length s ≤ length b
@@ -294,18 +293,6 @@ module _ (k : Kind) (d : ℕ) (offs : List ℕ) (w : Within 1 d offs) where
         ap length moves ∙ length-paste c d (drop (d + n) c) d (omega arith) enough ∙ same,
         λ r at. subst (Stands k d offs (update k r part)) there (stands-part multiple r part b small bytes (omega arith) at),
       )
-
-  -- and over all of s, n bytes after the first i
-  pub carries-next : (s b c e : List ℕ) (i n : ℕ) → Carries k d offs (take i s) b c → Carries k d offs (take (i + n - i) (drop i s)) c e
-      → Carries k d offs (take (i + n) s) b e
-  carries-next s b c e i n f g r at =
-      let few : i + n - i ≡ n = omega arith in
-      subst (λ (x : ℕ). Stands k d offs x e)
-      (ap (λ (m : ℕ). update k (update k r (take i s)) (take m (drop i s))) few ∙ update-skip k r s i n refl)
-      (g (update k r (take i s)) (f r at))
-
-  pub carries-all : (s b c : List ℕ) (i : ℕ) → length s ≤ i → Carries k d offs (take i s) b c → Carries k d offs s b c
-  carries-all s b c i h f = subst (λ (l : List ℕ). Carries k d offs l b c) (take-all i s h) f
 
   -- the bytes that count, unswept, have the register
   pub stands-last : (r : ℕ) (b : List ℕ) → d + d ≤ length b → Stands k d offs r b → update k 0 (unswept offs d d b) ≡ r

@@ -5,7 +5,7 @@ use Prim.Native.Nat.{ℕ, zero, suc, _+_, _-_, _*_, _/_, _%_, _^_, _<_}
 use native.Mathlib.Nat.{add-zero, add-suc}
 use lib.ListN.{length}
 use lib.Bits.{bitXor, xor-shr, xor-mod, xor-self, xor-zero-r}
-use Rattle.crc.specs.Crc.{Direction, normal, reflected, Kind, leaving, moved, entering, bit, bits, byte, update}
+use Rattle.crc.specs.Crc.{Direction, normal, reflected, Kind, leaving, shifted, entering, bit, bits, byteStep, update}
 use Rattle.crc.specs.Tables.{zeroBytes}
 use Rattle.crc.proofs.Xor.{odd-lt, xor-assoc, xor-medial, xor-shl, xor-times}
 
@@ -17,9 +17,9 @@ leaving-xor : (d : Direction) (w a b : ℕ) → leaving d w (bitXor a b) ≡ bit
 leaving-xor normal w a b = ap (λ (x : ℕ). x % 2) (xor-shr a b (w - 1)) ∙ xor-mod (a / 2 ^ (w - 1)) (b / 2 ^ (w - 1)) 1
 leaving-xor reflected w a b = xor-mod a b 1
 
-moved-xor : (d : Direction) (w a b : ℕ) → moved d w (bitXor a b) ≡ bitXor (moved d w a) (moved d w b)
-moved-xor normal w a b = ap (λ (x : ℕ). x % 2 ^ w) (xor-shl a b 1) ∙ xor-mod (a * 2) (b * 2) w
-moved-xor reflected w a b = xor-shr a b 1
+shifted-xor : (d : Direction) (w a b : ℕ) → shifted d w (bitXor a b) ≡ bitXor (shifted d w a) (shifted d w b)
+shifted-xor normal w a b = ap (λ (x : ℕ). x % 2 ^ w) (xor-shl a b 1) ∙ xor-mod (a * 2) (b * 2) w
+shifted-xor reflected w a b = xor-shr a b 1
 
 pub entering-xor : (d : Direction) (w a b : ℕ) → entering d w (bitXor a b) ≡ bitXor (entering d w a) (entering d w b)
 entering-xor normal w a b = xor-shl a b (w - 8)
@@ -31,17 +31,18 @@ bit-xor k a b =
     let d = k .direction in
     let w = k .width in
     let p = k .poly in
-    ap₂ (λ (x y : ℕ). bitXor (x * p) y) (leaving-xor d w a b) (moved-xor d w a b)
-    ∙ ap (λ (x : ℕ). bitXor x (bitXor (moved d w a) (moved d w b))) (xor-times p (leaving d w a) (leaving d w b) (leaving-lt d w a) (leaving-lt d w b))
-    ∙ xor-medial (leaving d w a * p) (leaving d w b * p) (moved d w a) (moved d w b)
+    ap₂ (λ (x y : ℕ). bitXor (x * p) y) (leaving-xor d w a b) (shifted-xor d w a b)
+    ∙ ap (λ (x : ℕ). bitXor x (bitXor (shifted d w a) (shifted d w b)))
+    (xor-times p (leaving d w a) (leaving d w b) (leaving-lt d w a) (leaving-lt d w b))
+    ∙ xor-medial (leaving d w a * p) (leaving d w b * p) (shifted d w a) (shifted d w b)
 
 pub bits-xor : (k : Kind) (n a b : ℕ) → bits k n (bitXor a b) ≡ bitXor (bits k n a) (bits k n b)
 unfolding bits
 bits-xor k zero a b = refl
 bits-xor k (suc n) a b = ap (bits k n) (bit-xor k a b) ∙ bits-xor k n (bit k a) (bit k b)
 
-pub byte-xor : (k : Kind) (u v b : ℕ) → byte k (bitXor u v) b ≡ bitXor (bits k 8 u) (byte k v b)
-unfolding byte
+pub byte-xor : (k : Kind) (u v b : ℕ) → byteStep k (bitXor u v) b ≡ bitXor (bits k 8 u) (byteStep k v b)
+unfolding byteStep
 byte-xor k u v b =
     let e = entering (k .direction) (k .width) b in
     ap (bits k 8) (xor-assoc u v e) ∙ bits-xor k 8 u (bitXor v e)
@@ -49,7 +50,7 @@ byte-xor k u v b =
 pub update-xor : (k : Kind) (u v : ℕ) (s : List ℕ) → update k (bitXor u v) s ≡ bitXor (zeroBytes k (length s) u) (update k v s)
 unfolding update zeroBytes
 update-xor k u v [] = refl
-update-xor k u v (b ∷ s) = ap (λ (x : ℕ). update k x s) (byte-xor k u v b) ∙ update-xor k (bits k 8 u) (byte k v b) s
+update-xor k u v (b ∷ s) = ap (λ (x : ℕ). update k x s) (byte-xor k u v b) ∙ update-xor k (bits k 8 u) (byteStep k v b) s
 
 -- from any register: its own part, and that of the bytes
 pub update-from : (k : Kind) (r : ℕ) (s : List ℕ) → update k r s ≡ bitXor (zeroBytes k (length s) r) (update k 0 s)
@@ -57,8 +58,8 @@ update-from k r s = ap (λ (x : ℕ). update k x s) (sym (xor-zero-r r)) ∙ upd
 
 -- ---- bytes
 
-pub byte-sum : (k : Kind) (u v x y : ℕ) → byte k (bitXor u v) (bitXor x y) ≡ bitXor (byte k u x) (byte k v y)
-unfolding byte
+pub byte-sum : (k : Kind) (u v x y : ℕ) → byteStep k (bitXor u v) (bitXor x y) ≡ bitXor (byteStep k u x) (byteStep k v y)
+unfolding byteStep
 byte-sum k u v x y =
     let d = k .direction in
     let w = k .width in
@@ -66,11 +67,11 @@ byte-sum k u v x y =
     ∙ ap (bits k 8) (xor-medial u v (entering d w x) (entering d w y))
     ∙ bits-xor k 8 (bitXor u (entering d w x)) (bitXor v (entering d w y))
 
-pub byte-none : (k : Kind) → byte k 0 0 ≡ 0
-byte-none k = byte-sum k 0 0 0 0 ∙ xor-self (byte k 0 0)
+pub byte-none : (k : Kind) → byteStep k 0 0 ≡ 0
+byte-none k = byte-sum k 0 0 0 0 ∙ xor-self (byteStep k 0 0)
 
-pub byte-parts : (k : Kind) (r b : ℕ) → byte k r b ≡ bitXor (bits k 8 r) (byte k 0 b)
-byte-parts k r b = ap (λ (x : ℕ). byte k x b) (sym (xor-zero-r r)) ∙ byte-xor k r 0 b
+pub byte-parts : (k : Kind) (r b : ℕ) → byteStep k r b ≡ bitXor (bits k 8 r) (byteStep k 0 b)
+byte-parts k r b = ap (λ (x : ℕ). byteStep k x b) (sym (xor-zero-r r)) ∙ byte-xor k r 0 b
 
 -- ---- bytes of zero
 

@@ -6,7 +6,7 @@ use native.Mathlib.Omega.{arith}
 use lib.Bits.{bitXor, xor-zero-l, xor-zero-r}
 use lib.ListN.{length, take, drop, getD}
 use lib.Seq.{drop-cons}
-use Rattle.crc.specs.Crc.{Kind, bits, byte, update}
+use Rattle.crc.specs.Crc.{Kind, bits, byteStep, update}
 use Rattle.crc.specs.Tables.{front, rest}
 use Rattle.crc.specs.Folding.{met, unmet}
 use Rattle.crc.proofs.Xor.{xor-assoc}
@@ -16,13 +16,13 @@ use Rattle.crc.proofs.TableStep.{byte-table}
 module _ (k : Kind) (wide : 8 ≤ k .width) where
   -- one byte meets the front of it
   byte-met : (v r b : ℕ)
-      → byte k (bitXor v r) b ≡ bitXor (byte k v (bitXor (front (k .direction) (k .width) r) b)) (rest (k .direction) (k .width) r)
+      → byteStep k (bitXor v r) b ≡ bitXor (byteStep k v (bitXor (front (k .direction) (k .width) r) b)) (rest (k .direction) (k .width) r)
   byte-met v r b =
       let met = bitXor (front (k .direction) (k .width) r) b in
       let left = rest (k .direction) (k .width) r in
       byte-xor k v r b
       ∙ ap (bitXor (bits k 8 v)) (byte-table k wide r b)
-      ∙ sym (xor-assoc (bits k 8 v) (byte k 0 met) left)
+      ∙ sym (xor-assoc (bits k 8 v) (byteStep k 0 met) left)
       ∙ ap (λ (x : ℕ). bitXor x left) (sym (byte-parts k v met))
 
   all-met : (s : List ℕ) (v r : ℕ) → update k (bitXor v r) s ≡ bitXor (update k v (met k r s)) (unmet k (length s) r)
@@ -30,7 +30,7 @@ module _ (k : Kind) (wide : 8 ≤ k .width) where
   all-met [] v r = refl
   all-met (x ∷ s) v r =
       ap (λ (y : ℕ). update k y s) (byte-met v r x)
-      ∙ all-met s (byte k v (bitXor (front (k .direction) (k .width) r) x)) (rest (k .direction) (k .width) r)
+      ∙ all-met s (byteStep k v (bitXor (front (k .direction) (k .width) r) x)) (rest (k .direction) (k .width) r)
 
   -- where nothing of the register is left
   pub update-met : (r : ℕ) (s : List ℕ) → unmet k (length s) r ≡ 0 → update k r s ≡ update k 0 (met k r s)

@@ -5,7 +5,7 @@ use native.Mathlib.Nat.{mod-lt, zero-mul, mul-one, mul-assoc, mul-comm, pow-suc,
 use native.Mathlib.Omega.{arith}
 use lib.Pow.{pow-pos, pow-mono, split}
 use lib.Bits.{bitXor, xor-comm, xor-shifted, shifted-even, shifted-half}
-use Rattle.crc.specs.Crc.{Direction, normal, reflected, Kind, leaving, moved, entering, bit, bits, byte}
+use Rattle.crc.specs.Crc.{Direction, normal, reflected, Kind, leaving, shifted, entering, bit, bits, byteStep}
 use Rattle.crc.specs.Tables.{front, rest}
 use Rattle.crc.proofs.Xor.{xor-assoc}
 use Rattle.crc.proofs.Linear.{bits-xor, entering-xor}
@@ -22,23 +22,23 @@ parts normal w r =
 parts reflected w r = xor-shifted (r / 2 ^ 8) 8 (r % 2 ^ 8) (mod-lt r (pow-pos 8)) ∙ split r 8
 
 -- where a 0 leaves, the register only moves
-bit-zero : (k : Kind) (r : ℕ) → leaving (k .direction) (k .width) r ≡ 0 → bit k r ≡ moved (k .direction) (k .width) r
+bit-zero : (k : Kind) (r : ℕ) → leaving (k .direction) (k .width) r ≡ 0 → bit k r ≡ shifted (k .direction) (k .width) r
 unfolding bit
 bit-zero k r e =
-    let m = moved (k .direction) (k .width) r in
+    let m = shifted (k .direction) (k .width) r in
     ap (λ (x : ℕ). bitXor (x * k .poly) m) e ∙ ap (λ (x : ℕ). bitXor x m) (zero-mul (k .poly))
 
-bits-reflected : (k : Kind) → k .direction ≡ reflected → (n h : ℕ) → bits k n (h * 2 ^ n) ≡ h
+pub bits-reflected : (k : Kind) → k .direction ≡ reflected → (n h : ℕ) → bits k n (h * 2 ^ n) ≡ h
 unfolding bits
 bits-reflected k e zero h = mul-one h
 bits-reflected k e (suc n) h =
     ap (bits k n)
     (bit-zero k (h * 2 ^ suc n) (ap (λ (d : Direction). leaving d (k .width) (h * 2 ^ suc n)) e ∙ shifted-even h n)
-    ∙ ap (λ (d : Direction). moved d (k .width) (h * 2 ^ suc n)) e
+    ∙ ap (λ (d : Direction). shifted d (k .width) (h * 2 ^ suc n)) e
     ∙ shifted-half h n)
     ∙ bits-reflected k e n h
 
-bits-normal : (k : Kind) → k .direction ≡ normal → (n m r : ℕ) → k .width ≡ m + n → r < 2 ^ m → bits k n r ≡ r * 2 ^ n
+pub bits-normal : (k : Kind) → k .direction ≡ normal → (n m r : ℕ) → k .width ≡ m + n → r < 2 ^ m → bits k n r ≡ r * 2 ^ n
 unfolding bits
 bits-normal k e zero m r hw hr = sym (mul-one r)
 bits-normal k e (suc n) m r hw hr =
@@ -50,7 +50,7 @@ bits-normal k e (suc n) m r hw hr =
     ap (bits k n)
     (bit-zero k r
     (ap (λ (d : Direction). leaving d (k .width) r) e ∙ ap (λ (x : ℕ). r / 2 ^ x % 2) one ∙ ap (λ (x : ℕ). x % 2) (div-eq-of-lt below))
-    ∙ ap (λ (d : Direction). moved d (k .width) r) e
+    ∙ ap (λ (d : Direction). shifted d (k .width) r) e
     ∙ mod-eq-of-lt twice)
     ∙ bits-normal k e n (suc m) (r * 2) (omega arith) small
     ∙ mul-assoc r 2 (2 ^ n)
@@ -61,8 +61,9 @@ bits-kept k normal e h r = bits-normal k e 8 (k .width - 8) (r % 2 ^ (k .width -
 bits-kept k reflected e h r = bits-reflected k e 8 (r / 2 ^ 8)
 
 -- the table step: the entry at the front bits and the byte, and the other bits moved
-pub byte-table : (k : Kind) → 8 ≤ k .width → (r b : ℕ) → byte k r b ≡ bitXor (byte k 0 (bitXor (front (k .direction) (k .width) r) b)) (rest (k .direction) (k .width) r)
-unfolding byte
+pub byte-table : (k : Kind) → 8 ≤ k .width → (r b : ℕ)
+    → byteStep k r b ≡ bitXor (byteStep k 0 (bitXor (front (k .direction) (k .width) r) b)) (rest (k .direction) (k .width) r)
+unfolding byteStep
 byte-table k h r b =
     let d = k .direction in
     let w = k .width in

@@ -11,7 +11,7 @@ use lib.Dec.{T, eqb, eqb→eq}
 use lib.ListN.{length, getD, take, drop, length-drop}
 use lib.Pow.{pow-pos, split}
 use lib.Seq.{getD-take, getD-drop, length-take-le}
-use Rattle.crc.specs.Crc.{Kind, bits, byte}
+use Rattle.crc.specs.Crc.{Kind, bits, byteStep}
 use Rattle.crc.specs.Tables.{zeroBytes, nibble, Tabled}
 use Rattle.crc.proofs.Linear.{byte-sum, zeroBytes-xor, zeroBytes-add}
 use Rattle.crc.proofs.Tests.{and-left, and-right}
@@ -44,7 +44,7 @@ pairwise-at f (x ∷ xs) (y ∷ ys) t (suc j) hx hy =
 
 -- an entry of the first table
 unfoldable pub first-entry : Kind → ℕ → ℕ → Bool
-first-entry k j x = eqb x (byte k 0 (nibble j))
+first-entry k j x = eqb x (byteStep k 0 (nibble j))
 
 -- an entry, and the one 32 after it
 unfoldable pub later-entry : Kind → ℕ → ℕ → Bool
@@ -61,7 +61,7 @@ module _ (k : Kind) (n : ℕ) (t : List ℕ) (size : length t ≡ n * 32) (test 
   later : T (pairwise (later-entry k) t (drop 32 t))
   later = and-right (every (first-entry k) 0 (take 32 t)) (pairwise (later-entry k) t (drop 32 t)) test
 
-  entry : (m j : ℕ) → m < n → j < 32 → getD t (m * 32 + j) 0 ≡ zeroBytes k m (byte k 0 (nibble j))
+  entry : (m j : ℕ) → m < n → j < 32 → getD t (m * 32 + j) 0 ≡ zeroBytes k m (byteStep k 0 (nibble j))
   unfolding first-entry later-entry zeroBytes
   entry zero j hm hj =
       let some : 32 ≤ length t = omega arith in
@@ -69,8 +69,8 @@ module _ (k : Kind) (n : ℕ) (t : List ℕ) (size : length t ≡ n * 32) (test 
       let passed = every-at (first-entry k) (take 32 t) 0 first j (subst (λ (x : ℕ). j < x) (sym long) hj) in
       ap (λ (x : ℕ). getD t x 0) (ap (λ (x : ℕ). x + j) (zero-mul 32) ∙ zero-add j)
       ∙ sym (getD-take 32 t j 0 hj)
-      ∙ eqb→eq (getD (take 32 t) j 0) (byte k 0 (nibble (0 + j))) passed
-      ∙ ap (λ (x : ℕ). byte k 0 (nibble x)) (zero-add j)
+      ∙ eqb→eq (getD (take 32 t) j 0) (byteStep k 0 (nibble (0 + j))) passed
+      ∙ ap (λ (x : ℕ). byteStep k 0 (nibble x)) (zero-add j)
   entry (suc m) j hm hj =
       let i = m * 32 + j in
       let h : i + 32 < length t = omega arith in
@@ -81,8 +81,8 @@ module _ (k : Kind) (n : ℕ) (t : List ℕ) (size : length t ≡ n * 32) (test 
       ∙ eqb→eq (getD (drop 32 t) i 0) (bits k 8 (getD t i 0))
       (pairwise-at (later-entry k) t (drop 32 t) later i (omega arith) (rw length-drop (omega arith)))
       ∙ ap (bits k 8) (entry m j (omega arith) hj)
-      ∙ zeroBytes-add k m 1 (byte k 0 (nibble j))
-      ∙ ap (λ (x : ℕ). zeroBytes k x (byte k 0 (nibble j))) one
+      ∙ zeroBytes-add k m 1 (byteStep k 0 (nibble j))
+      ∙ ap (λ (x : ℕ). zeroBytes k x (byteStep k 0 (nibble j))) one
 
   pub tabled : Tabled k n t
   unfolding Tabled
@@ -90,7 +90,7 @@ module _ (k : Kind) (n : ℕ) (t : List ℕ) (size : length t ≡ n * 32) (test 
 
 -- the entry of a byte is the sum of those of its nibbles
 pub two-nibbles : (k : Kind) (n : ℕ) (t : List ℕ) → Tabled k n t → (m x : ℕ) → m < n → x < 256
-    → bitXor (getD t (m * 32 + x % 16) 0) (getD t (m * 32 + 16 + x / 16) 0) ≡ zeroBytes k m (byte k 0 x)
+    → bitXor (getD t (m * 32 + x % 16) 0) (getD t (m * 32 + 16 + x / 16) 0) ≡ zeroBytes k m (byteStep k 0 x)
 unfolding Tabled
 two-nibbles k n t h m x hm hx =
     let lo = x % 16 in
@@ -103,7 +103,7 @@ two-nibbles k n t h m x hm hx =
     let high : nibble (16 + hi) ≡ hi * 2 ^ 4 = ap₂ (λ (a b : ℕ). a * 16 ^ b) hi-lo hi-hi in
     let place : m * 32 + 16 + hi ≡ m * 32 + (16 + hi) = omega arith in
     let whole : bitXor lo (hi * 2 ^ 4) ≡ x = xor-comm lo (hi * 2 ^ 4) ∙ xor-shifted hi 4 lo (mod-lt x (pow-pos 4)) ∙ split x 4 in
-    ap₂ bitXor (h m lo hm (omega arith) ∙ ap (λ (y : ℕ). zeroBytes k m (byte k 0 y)) low)
-    (ap (λ (y : ℕ). getD t y 0) place ∙ h m (16 + hi) hm (omega arith) ∙ ap (λ (y : ℕ). zeroBytes k m (byte k 0 y)) high)
-    ∙ sym (zeroBytes-xor k m (byte k 0 lo) (byte k 0 (hi * 2 ^ 4)))
-    ∙ ap (zeroBytes k m) (sym (byte-sum k 0 0 lo (hi * 2 ^ 4)) ∙ ap (byte k 0) whole)
+    ap₂ bitXor (h m lo hm (omega arith) ∙ ap (λ (y : ℕ). zeroBytes k m (byteStep k 0 y)) low)
+    (ap (λ (y : ℕ). getD t y 0) place ∙ h m (16 + hi) hm (omega arith) ∙ ap (λ (y : ℕ). zeroBytes k m (byteStep k 0 y)) high)
+    ∙ sym (zeroBytes-xor k m (byteStep k 0 lo) (byteStep k 0 (hi * 2 ^ 4)))
+    ∙ ap (zeroBytes k m) (sym (byte-sum k 0 0 lo (hi * 2 ^ 4)) ∙ ap (byteStep k 0) whole)

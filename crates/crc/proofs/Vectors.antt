@@ -3,7 +3,7 @@
 use Prim.Native.Nat.{ℕ}
 use mathlib.Core.Path.{_≡_, refl}
 use mathlib.Core.List.{List, [], _∷_}
-use Rattle.crc.specs.Crc.{checksum, finish, update, byte, bits, bit, crc16-modbus, crc16-ccitt, crc32}
+use Rattle.crc.specs.Crc.{checksum, finish, update, byteStep, bits, bit, crc16-modbus, crc16-ccitt, crc32}
 
 -- 123456789 in ASCII
 abbrev pub digits : List ℕ
@@ -16,5 +16,5 @@ pub record Published : Type 0 where
   pub crc32-none : checksum crc32 [] ≡ 0
 
 pub published : Published
-unfolding checksum finish update byte bits bit crc16-modbus crc16-ccitt crc32
+unfolding checksum finish update byteStep bits bit crc16-modbus crc16-ccitt crc32
 published = record { modbus-digits = refl; ccitt-digits = refl; crc32-digits = refl; crc32-none = refl }

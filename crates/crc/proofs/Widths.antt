@@ -7,7 +7,7 @@ use native.Mathlib.Omega.{arith}
 use lib.Bits.{xor-lt}
 use lib.ListN.{getD}
 use lib.Pow.{pow-pos, pow-mono, shl-lt}
-use Rattle.crc.specs.Crc.{Direction, normal, reflected, Kind, leaving, moved, entering, bit, bits, byte, update, finish, checksum, crc16-modbus, crc32}
+use Rattle.crc.specs.Crc.{Direction, normal, reflected, Kind, leaving, shifted, entering, bit, bits, byteStep, update, finish, checksum, crc16-modbus, crc32}
 use Rattle.crc.proofs.Xor.{odd-lt, of-bit}
 
 -- a kind whose parameters have its width
@@ -22,9 +22,9 @@ module _ (k : Kind) (wide : Wide k) where
   leaving-bit normal w r = odd-lt (r / 2 ^ (w - 1))
   leaving-bit reflected w r = odd-lt r
 
-  moved-fits : (d : Direction) (w r : ℕ) → r < 2 ^ w → moved d w r < 2 ^ w
-  moved-fits normal w r h = mod-lt (r * 2) (pow-pos w)
-  moved-fits reflected w r h = let less = div-le-self r 2 in omega arith
+  shifted-fits : (d : Direction) (w r : ℕ) → r < 2 ^ w → shifted d w r < 2 ^ w
+  shifted-fits normal w r h = mod-lt (r * 2) (pow-pos w)
+  shifted-fits reflected w r h = let less = div-le-self r 2 in omega arith
 
   entering-fits : (d : Direction) (w b : ℕ) → 8 ≤ w → b < 256 → entering d w b < 2 ^ w
   entering-fits normal w b h small =
@@ -37,23 +37,24 @@ module _ (k : Kind) (wide : Wide k) where
   bit-fits r h =
       let w = k .width in
       let added : leaving (k .direction) w r * k .poly < 2 ^ w =
-      of-bit (λ (x : ℕ). x * k .poly < 2 ^ w) (subst (λ (n : ℕ). n < 2 ^ w) (sym (zero-mul (k .poly))) (pow-pos w)) (subst (λ (n : ℕ). n < 2 ^ w) (sym (one-mul (k .poly))) (wide .poly))
+      of-bit (λ (x : ℕ). x * k .poly < 2 ^ w) (subst (λ (n : ℕ). n < 2 ^ w) (sym (zero-mul (k .poly))) (pow-pos w))
+      (subst (λ (n : ℕ). n < 2 ^ w) (sym (one-mul (k .poly))) (wide .poly))
       (leaving (k .direction) w r) (leaving-bit (k .direction) w r) in
-      xor-lt w _ _ added (moved-fits (k .direction) w r h)
+      xor-lt w _ _ added (shifted-fits (k .direction) w r h)
 
   bits-fits : (n r : ℕ) → r < 2 ^ k .width → bits k n r < 2 ^ k .width
   unfolding bits
   bits-fits zero r h = h
   bits-fits (suc n) r h = bits-fits n (bit k r) (bit-fits r h)
 
-  byte-fits : (r b : ℕ) → r < 2 ^ k .width → b < 256 → byte k r b < 2 ^ k .width
-  unfolding byte
+  byte-fits : (r b : ℕ) → r < 2 ^ k .width → b < 256 → byteStep k r b < 2 ^ k .width
+  unfolding byteStep
   byte-fits r b h small = bits-fits 8 _ (xor-lt (k .width) _ _ h (entering-fits (k .direction) (k .width) b (wide .octet) small))
 
   update-fits : (s : List ℕ) (r : ℕ) → ((i : ℕ) → getD s i 0 < 256) → r < 2 ^ k .width → update k r s < 2 ^ k .width
   unfolding update
   update-fits [] r bytes h = h
-  update-fits (b ∷ s) r bytes h = update-fits s (byte k r b) (λ i. bytes (suc i)) (byte-fits r b h (bytes 0))
+  update-fits (b ∷ s) r bytes h = update-fits s (byteStep k r b) (λ i. bytes (suc i)) (byte-fits r b h (bytes 0))
 
   pub checksum-fits : (s : List ℕ) → ((i : ℕ) → getD s i 0 < 256) → checksum k s < 2 ^ k .width
   unfolding checksum finish

@@ -26,10 +26,10 @@ abbrev pub leaving : Direction → ℕ → ℕ → ℕ
 leaving normal w r = r / 2 ^ (w - 1) % 2
 leaving reflected w r = r % 2
 
--- the register without that bit, moved by one
-abbrev pub moved : Direction → ℕ → ℕ → ℕ
-moved normal w r = r * 2 % 2 ^ w
-moved reflected w r = r / 2
+-- the register without that bit, shifted by one
+abbrev pub shifted : Direction → ℕ → ℕ → ℕ
+shifted normal w r = r * 2 % 2 ^ w
+shifted reflected w r = r / 2
 
 -- a byte at the end of the register that bits leave from
 abbrev pub entering : Direction → ℕ → ℕ → ℕ
@@ -38,7 +38,7 @@ entering reflected w b = b
 
 -- the register one bit later: the polynomial is added where a 1 leaves
 unfoldable pub bit : Kind → ℕ → ℕ
-bit k r = bitXor (leaving (k .direction) (k .width) r * k .poly) (moved (k .direction) (k .width) r)
+bit k r = bitXor (leaving (k .direction) (k .width) r * k .poly) (shifted (k .direction) (k .width) r)
 
 -- the register n bits later
 unfoldable pub bits : Kind → ℕ → ℕ → ℕ
@@ -46,13 +46,13 @@ bits k zero r = r
 bits k (suc n) r = bits k n (bit k r)
 
 -- the register after the byte b
-unfoldable pub byte : Kind → ℕ → ℕ → ℕ
-byte k r b = bits k 8 (bitXor r (entering (k .direction) (k .width) b))
+unfoldable pub byteStep : Kind → ℕ → ℕ → ℕ
+byteStep k r b = bits k 8 (bitXor r (entering (k .direction) (k .width) b))
 
 -- the register after the bytes s
 unfoldable pub update : Kind → ℕ → List ℕ → ℕ
 update k r [] = r
-update k r (b ∷ s) = update k (byte k r b) s
+update k r (b ∷ s) = update k (byteStep k r b) s
 
 -- the check value that a register stands for
 unfoldable pub finish : Kind → ℕ → ℕ

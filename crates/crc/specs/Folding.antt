@@ -7,7 +7,7 @@ use mathlib.Core.List.{List, [], _∷_}
 use Prim.Native.Nat.{ℕ, zero, suc, _+_, _-_, _≤_, _<_}
 use lib.Bits.{bitXor}
 use lib.ListN.{length, take, drop, getD, set, replicate}
-use Rattle.crc.specs.Crc.{Kind, byte, update}
+use Rattle.crc.specs.Crc.{Kind, byteStep, update}
 use Rattle.crc.specs.Tables.{zeroBytes, front, rest}
 
 -- the sum of f over the offsets
@@ -22,7 +22,7 @@ Within least most offs = (n : ℕ) → n < length offs → (least ≤ getD offs 
 -- In bytes, x^8d and the x^8(d - a), for each offset a, add up to a multiple of the polynomial: d bytes of zero after a byte leave the
 -- register that d - a of them do, added up over the offsets
 unfoldable pub Multiple : Kind → ℕ → List ℕ → Type 0
-Multiple k d offs = (j : ℕ) → j < 256 → zeroBytes k d (byte k 0 j) ≡ sumOver offs (λ (a : ℕ). zeroBytes k (d - a) (byte k 0 j))
+Multiple k d offs = (j : ℕ) → j < 256 → zeroBytes k d (byteStep k 0 j) ≡ sumOver offs (λ (a : ℕ). zeroBytes k (d - a) (byteStep k 0 j))
 
 -- what the bytes before place p add to it
 abbrev pub gathered : List ℕ → List ℕ → ℕ → ℕ
@@ -49,6 +49,14 @@ Stands k d offs r b = (standing k offs d (drop d b) ≡ r) × (take d b ≡ repl
 -- whatever register b stands for, c stands for it after the bytes s
 abbrev pub Carries : Kind → ℕ → List ℕ → List ℕ → List ℕ → List ℕ → Type 0
 Carries k d offs s b c = (r : ℕ) → Stands k d offs r b → Stands k d offs (update k r s) c
+
+-- The buffer is as long as d zeros, the d bytes that count and a part of n bytes
+abbrev pub room : ℕ → ℕ → ℕ
+room d n = d + d + n
+
+-- and a message's first n bytes are put down in it at the end of those that count
+abbrev pub headAt : ℕ → ℕ → ℕ
+headAt d n = d + (d - n)
 
 -- the bytes s with the register r added to the first of them, to each the front that it would meet
 abbrev pub met : Kind → ℕ → List ℕ → List ℕ

@@ -5,7 +5,7 @@ use mathlib.Core.Path.{_≡_}
 use mathlib.Core.List.{List}
 use Prim.Native.Nat.{ℕ, zero, suc, _+_, _-_, _*_, _/_, _%_, _^_, _<_}
 use lib.ListN.{getD}
-use Rattle.crc.specs.Crc.{Direction, normal, reflected, Kind, bits, byte}
+use Rattle.crc.specs.Crc.{Direction, normal, reflected, Kind, bits, byteStep}
 
 -- the register after n bytes of zero
 unfoldable pub zeroBytes : Kind → ℕ → ℕ → ℕ
@@ -18,7 +18,7 @@ nibble j = j % 16 * 16 ^ (j / 16)
 
 -- n tables of 32 entries, one after the other: in table m, at j, the register after the byte `nibble j` and m bytes of zero, from 0
 unfoldable pub Tabled : Kind → ℕ → List ℕ → Type 0
-Tabled k n t = (m j : ℕ) → m < n → j < 32 → getD t (m * 32 + j) 0 ≡ zeroBytes k m (byte k 0 (nibble j))
+Tabled k n t = (m j : ℕ) → m < n → j < 32 → getD t (m * 32 + j) 0 ≡ zeroBytes k m (byteStep k 0 (nibble j))
 
 -- the eight bits of a register of w bits that the next byte is added to
 abbrev pub front : Direction → ℕ → ℕ → ℕ

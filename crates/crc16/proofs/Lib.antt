@@ -1,3 +1,3 @@
 -- What belongs to no one function.
-mod TwoBytes
+mod FirstBytes
 mod Foldable

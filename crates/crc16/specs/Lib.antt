@@ -1,2 +1,2 @@
 -- What the private functions of `crc16` cite; its public contracts cite `crc` alone.
-pub mod Kinds
+pub mod Foldable

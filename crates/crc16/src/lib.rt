@@ -1,15 +1,15 @@
 // CRC-16 of a slice of bytes, in two kinds: `modbus` checks a packet, `ccitt` is the second maker's.
 //
 // What a CRC is stands in specs/Crc.antt of the crate `crc`; each function here is equal to that definition on every slice. A long message
-// is folded to a few bytes with the same register (`fold`), these go by tables (`slicing`). Both kinds share these functions; each has its
-// parameters and tables.
+// is folded to a few bytes with the same register (`fold`), these go by tables (the crate `slicing16`). Both kinds share these functions;
+// each has its parameters and tables.
 mod ccitt_table;
 mod fold;
 mod modbus_table;
 mod register;
-mod slicing;
 
 use crate::register::Parameters;
+use slicing16::register::Kind16;
 ghost use mathlib.Core.Path.{_≡_};
 ghost use Rattle.crc.specs.Crc.{checksum, crc16-ccitt, crc16-modbus};
 
@@ -19,9 +19,11 @@ pub fn modbus(s: &[u8]) -> u16
 {
     let t = modbus_table::MODBUS;
     let p = Parameters {
-        poly: 0xA001,
-        start: 0xFFFF,
-        reflected: true,
+        kind: Kind16 {
+            poly: 0xA001,
+            start: 0xFFFF,
+            reflected: true,
+        },
         offsets: [45, 56, 59],
         far: 59,
     };
@@ -34,9 +36,11 @@ pub fn ccitt(s: &[u8]) -> u16
 {
     let t = ccitt_table::CCITT;
     let p = Parameters {
-        poly: 0x1021,
-        start: 0xFFFF,
-        reflected: false,
+        kind: Kind16 {
+            poly: 0x1021,
+            start: 0xFFFF,
+            reflected: false,
+        },
         offsets: [37, 47, 73],
         far: 73,
     };

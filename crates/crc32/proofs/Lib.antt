@@ -1,3 +1,3 @@
 -- What belongs to no one function.
-mod FourBytes
+mod FirstBytes
 mod Foldable

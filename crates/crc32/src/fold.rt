@@ -1,13 +1,12 @@
 // The register over a long message: folded down to FAR bytes, which the tables then take.
-use crate::slicing;
 ghost use mathlib.Core.Path.{_≡_};
 ghost use Prim.Native.Nat.{_≤_};
 ghost use lib.ListN.{length, take};
 ghost use lib.Seq.{sets};
 ghost use Rattle.crc.specs.Crc.{update, crc32};
-ghost use Rattle.crc.specs.Folding.{Carries, met};
+ghost use Rattle.crc.specs.Folding.{Carries, headAt, met};
 ghost use Rattle.crc.specs.Tables.{Tabled};
-ghost use Rattle.crc32.specs.Offsets.{offsets, far, headAt, partSize, room};
+ghost use Rattle.crc32.specs.Offsets.{offsets, far, partSize32, room32};
 
 // Shorter messages are faster by the tables alone.
 pub(crate) const LEAST: usize = 512;
@@ -36,26 +35,26 @@ pub(crate) fn long(t: &[u32; 512], register: u32, s: &[u8]) -> u32
     all(&s[4..], &mut b);
     let mut u = [0u8; FAR];
     folding::unsweep(&offsets, &b, FAR, &mut u);
-    slicing::over(t, 0, &u)
+    slicing32::over(t, 0, &u)
 }
 
 // Puts down the first four bytes of s. The register meets them: it has four bytes.
 fn put_head(register: u32, s: &[u8], b: &mut [u8])
-    requires { ⌜ (4 ≤ length (now s)) × (length (now b) ≡ room) ⌝ }
-    ensures { λ _. ⌜ now (b .exit) ≡ sets (now (b .entry)) headAt (met crc32 register (take 4 (now (s .entry)))) ⌝ }
+    requires { ⌜ (4 ≤ length (now s)) × (length (now b) ≡ room32) ⌝ }
+    ensures { λ _. ⌜ now (b .exit) ≡ sets (now (b .entry)) (headAt far 4) (met crc32 register (take 4 (now (s .entry)))) ⌝ }
 {
     let c1 = register / 256;
     let c2 = c1 / 256;
     let c3 = c2 / 256;
-    b[HEAD] = slicing::low(register) ^ s[0];
-    b[HEAD + 1] = slicing::low(c1) ^ s[1];
-    b[HEAD + 2] = slicing::low(c2) ^ s[2];
-    b[HEAD + 3] = slicing::low(c3) ^ s[3];
+    b[HEAD] = slicing32::low(register) ^ s[0];
+    b[HEAD + 1] = slicing32::low(c1) ^ s[1];
+    b[HEAD + 2] = slicing32::low(c2) ^ s[2];
+    b[HEAD + 3] = slicing32::low(c3) ^ s[3];
 }
 
 // Carries the register that b stands for on over s, part after part.
 fn all(s: &[u8], b: &mut [u8])
-    requires { ⌜ length (now b) ≡ room ⌝ }
+    requires { ⌜ length (now b) ≡ room32 ⌝ }
     ensures { λ _. ⌜ Carries crc32 far offsets (now (s .entry)) (now (b .entry)) (now (b .exit)) ⌝ }
 {
     let mut i = 0;
@@ -68,8 +67,8 @@ fn all(s: &[u8], b: &mut [u8])
 
 // The same over one part: sweeps it in, and moves the bytes that now count to where those of before were.
 fn part(s: &[u8], b: &mut [u8])
-    requires { ⌜ (length (now s) ≤ partSize) × (length (now b) ≡ room) ⌝ }
-    ensures { λ _. ⌜ (length (now (b .exit)) ≡ room) × Carries crc32 far offsets (now (s .entry)) (now (b .entry)) (now (b .exit)) ⌝ }
+    requires { ⌜ (length (now s) ≤ partSize32) × (length (now b) ≡ room32) ⌝ }
+    ensures { λ _. ⌜ (length (now (b .exit)) ≡ room32) × Carries crc32 far offsets (now (s .entry)) (now (b .entry)) (now (b .exit)) ⌝ }
 {
     let offsets = OFFSETS;
     folding::sweep(&offsets, FAR + FAR, s, &mut *b);

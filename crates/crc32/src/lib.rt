@@ -1,10 +1,9 @@
-// CRC-32 of a slice of bytes: a long message is folded to a few bytes with the same register (`fold`), these go by tables, sixteen at a time
-// (`slicing`).
+// CRC-32 of a slice of bytes: a long message is folded to a few bytes with the same register (`fold`), these go by tables, sixteen at a
+// time (the crate `slicing32`).
 //
 // What a CRC is stands in specs/Crc.antt of the crate `crc`; each function here is equal to that definition. A long message may be
 // taken in parts: start at `INIT`, `update` over each part in turn, then `finish`. `checksum` is the three in one.
 mod fold;
-mod slicing;
 mod tables;
 
 ghost use mathlib.Core.Path.{_≡_};
@@ -35,7 +34,7 @@ fn over(t: &[u32; 512], register: u32, s: &[u8]) -> u32
     ensures { λ r. ⌜ r ≡ update crc32 register (now (s .entry)) ⌝ }
 {
     if s.len() < fold::LEAST {
-        return slicing::over(t, register, s);
+        return slicing32::over(t, register, s);
     }
     fold::long(t, register, s)
 }

@@ -26,35 +26,35 @@
 //
 // A word that is not taken, an image that cannot be read and a failed write are told on standard error. The exit status is 0 all the
 // same: a Rattle program has no other.
-mod complaint;
-mod ends;
-mod image;
+mod arguments;
+mod image_file;
 mod letters;
-mod lines;
-mod number;
-mod run;
-mod words;
 
-use complaint::say;
-use ends::AREA;
-use image::MAX_IMAGE;
+use bench::AREA;
+use dialogue::run::Run;
+use image_file::MAX_IMAGE;
 use link::link::MEMORY;
 use link::script::Script;
-use run::Run;
+use sequences::part::front;
 use text::output::SIZE;
-use text::part::front;
-use words::Words;
-ghost use Prim.Native.Nat.{_<_};
-ghost use Rattle.exchange.specs.Ranges.{InRange};
+use words::complaint::say;
+use words::words::Words;
+ghost use mathlib.Core.Path.{_≡_};
+ghost use Prim.Native.Nat.{_≤_, _<_};
+ghost use lib.ListN.{length};
+ghost use Rattle.commands.specs.Limits.{maxArea};
+ghost use Rattle.bench.specs.Boards.{freshOn};
+ghost use Rattle.ends.specs.Ends.{openSender};
+ghost use Rattle.words.specs.Ranges.{InRange};
 
 fn main() {
-    let mut word = words::room();
-    let words = words::read(&mut word);
+    let mut word = arguments::room();
+    let words = arguments::read(&mut word);
     if words.is_bad {
         return;
     }
     let mut bytes = io::large_buffer();
-    let length = image::load(words.image, &mut word, &mut bytes);
+    let length = image_file::load(words.image, &mut word, &mut bytes);
     if length == 0 {
         return;
     }
@@ -72,13 +72,22 @@ fn exchange(words: Words, script: Script, bytes: &[u8; MAX_IMAGE], n: usize, let
     let mut memory = io::large_buffer();
     let mut area = io::large_buffer();
     let mut buffer = io::large_buffer();
-    let start = Run::start(words, script, image);
-    let begun = start.request(image, letters, &mut memory, &mut buffer);
+    let begun = start(words, script, image).request(image, letters, &mut memory, &mut buffer);
     let run = turns(begun, image, letters, &mut memory, &mut area, &mut buffer);
     let output = run.end(image, &memory, &area, &mut buffer);
     if output.failed {
         say(b"exchange: cannot write to standard output\n");
     }
+}
+
+// Neither end refuses to open.
+fn start(words: Words, script: Script, image: &[u8]) -> Run
+    requires { ⌜ InRange words ⌝ }
+    requires { ⌜ 0 < length (now image) ⌝ }
+    requires { ⌜ length (now image) ≤ maxArea ⌝ }
+    ensures { λ r. ⌜ (r .record ≡ freshOn (words .channel)) × (r .sender ≡ openSender (words .channel) (words .size) (length (now (image .entry)))) ⌝ }
+{
+    Run::start(words.channel, words.size, script, image)
 }
 
 // Turns until the run is over. A proved loop has to end, and that every exchange ends is not proved here: the turns are counted down from

@@ -1,8 +1,8 @@
 // Messages folded over a multiple of a CRC's polynomial that has few terms: the functions that only touch bytes.
 //
 // What sweeping is stands in specs/Folding.antt of the crate `crc`, with the laws that carry a register through it; docs/CHECKSUMS.md has
-// a worked example. Each kind of CRC has its offsets. No byte waits for one nearer than the least of them, so the compiler takes 16 or 32 at
-// a time.
+// a worked example. Each kind of CRC has its offsets. No byte waits for one nearer than the least of them, so the compiler takes 16 or 32
+// at a time.
 ghost use mathlib.Core.Path.{_≡_};
 ghost use Prim.Native.Nat.{_+_, _≤_, min};
 ghost use lib.ListN.{length, drop};

@@ -8,13 +8,14 @@ use borrow.Author.Tests.{le-leb, lt-leb}
 use lib.ListN.{length, take, drop, length-take, length-drop, take-append-drop}
 use lib.Seq.{drop-nil, drop-append-le}
 use Rattle.frames.specs.declared.reader.Reader.{Reader}
-use Rattle.frames.specs.Frame.{Bytes, FrameBytes, maxData, maxFrame, frameSize, lengthAt}
-use Rattle.frames.specs.Fronts.{frontOf, isWhole}
+use Rattle.sequences.specs.Bytes.{Bytes}
+use Rattle.fronts.specs.Frame.{FrameBytes, maxData, maxFrame, frameSize, lengthAt}
+use Rattle.fronts.specs.Fronts.{frontOf, isWhole}
 use Rattle.frames.specs.Reading.{Reading, reading}
 use Rattle.frames.specs.LiveReading.{CallResult, withFrame, feedingCall, quietCall, heldBytes, holding, handedBack, refused, fed, quieted, Call, feeding, quiet, called, fedBy, offered, due, calledThen, CallKeeps}
-use Rattle.frames.proofs.Bytes.{bytes-drop, bytes-take}
-use Rattle.frames.proofs.Padding.{take-padded}
-use Rattle.frames.proofs.Fronts.{is-whole, whole-passed}
+use Rattle.sequences.proofs.Bytes.{bytes-drop, bytes-take}
+use Rattle.sequences.proofs.Padding.{take-padded}
+use Rattle.fronts.proofs.Fronts.{is-whole, whole-passed}
 use Rattle.frames.proofs.Readings.{reading-whole, reading-stray}
 use Rattle.frames.proofs.Steps.{steps, steps-within, steps-found, steps-unfound, steps-small, whole-short, whole-bytes, steps-short, steps-bytes, droppedBefore, steps-reading}
 

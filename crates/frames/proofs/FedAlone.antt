@@ -5,17 +5,17 @@ use mathlib.Core.List.{List, [], _∷_, _++_, append-assoc, append-nil}
 use Prim.Native.Nat.{ℕ, _+_, _≤_, _<_}
 use native.Mathlib.Omega.{arith}
 use lib.ListN.{length, take, drop, length-append}
-use Rattle.frames.specs.declared.front.Front.{Front}
-use Rattle.frames.specs.declared.front.Front.the-variants.{Whole, Dead, Open}
+use Rattle.fronts.specs.declared.front.Front.{Front}
+use Rattle.fronts.specs.declared.front.Front.the-variants.{Whole, Dead, Open}
 use Rattle.frames.specs.declared.reader.Reader.{Reader}
-use Rattle.frames.specs.Frame.{maxData, frameSize, Frame, encode, lengthAt, frameAt}
-use Rattle.frames.specs.Fronts.{frontOf}
+use Rattle.fronts.specs.Frame.{maxData, frameSize, Frame, encode, lengthAt, frameAt}
+use Rattle.fronts.specs.Fronts.{frontOf}
 use Rattle.frames.specs.LiveReading.{withFrame, feedingCall, handedBack, fed, fedAlone}
 use Rattle.frames.specs.Buffer.{writable, writtenSize, writtenRoom}
-use Rattle.frames.proofs.Fronts.{dead-whole, whole-passed}
-use Rattle.frames.proofs.MoreBytes.{length-more, dead-more}
-use Rattle.frames.proofs.Writes.{encode-size}
-use Rattle.frames.proofs.Encodings.{length-encoded, frame-encoded, behind-encoded, front-encoded}
+use Rattle.fronts.proofs.Fronts.{dead-whole, whole-passed}
+use Rattle.fronts.proofs.MoreBytes.{length-more, dead-more}
+use Rattle.fronts.proofs.Sizes.{encode-size}
+use Rattle.fronts.proofs.Encodings.{length-encoded, frame-encoded, behind-encoded, front-encoded}
 use Rattle.frames.proofs.Turns.{feeding-whole, feeding-open}
 use Rattle.frames.proofs.RoundTrips.{writable-small, front-written}
 use Rattle.frames.proofs.Calls.{fed-accepted}

@@ -6,11 +6,12 @@ use native.Mathlib.Omega.{arith}
 use borrow.Author.Tests.{le-leb}
 use lib.ListN.{length, take, drop, length-append}
 use lib.Seq.{drop-drop, drop-at}
-use Rattle.frames.specs.Frame.{maxData, Frame}
-use Rattle.frames.specs.Places.{writtenAt}
-use Rattle.frames.specs.Finished.{zeros, padded, finished, frameOf, noData, extended}
+use Rattle.fronts.specs.Frame.{maxData, Frame}
+use Rattle.sequences.specs.Places.{writtenAt}
+use Rattle.sequences.specs.Padding.{zeros, padded}
+use Rattle.frames.specs.Finished.{finished, frameOf, noData, extended}
 use Rattle.frames.specs.LiveReading.{noFrame}
-use Rattle.frames.proofs.Padding.{drop-zeros, take-padded}
+use Rattle.sequences.proofs.Padding.{take-padded, padded-more}
 
 module _ (f : Frame) where
   pub finished-version : finished f .version ≡ f .version
@@ -52,14 +53,8 @@ no-data version command = refl
 -- a part that fits stands behind the data so far
 pub extended-finished : (f : Frame) (t : List ℕ) → length (f .payload) + length t ≤ maxData
     → extended (finished f) t ≡ finished (record { version = f .version; command = f .command; payload = f .payload ++ t })
-unfolding extended finished writtenAt
+unfolding extended finished
 extended-finished f t fits =
     let p = f .payload in
-    let n = length p + length t in
-    let bytes : take (length p) (padded maxData p) ++ (t ++ drop n (padded maxData p)) ≡ padded maxData (p ++ t) =
-    ap₂ (λ (a b : List ℕ). a ++ (t ++ b)) (take-padded maxData p)
-    (sym (drop-drop (length t) (length p) (padded maxData p)) ∙ ap (drop (length t)) (drop-at p (zeros (maxData - length p)) (length p) refl) ∙ drop-zeros (length t) (maxData - length p))
-    ∙ sym (append-assoc p t (zeros (maxData - length p - length t)))
-    ∙ ap (λ (k : ℕ). (p ++ t) ++ zeros k) (let e : maxData - length p - length t ≡ maxData - length (p ++ t) = omega (arith, length-append p t) in e) in
-    let ok = le-leb n maxData fits in
-    rw ok (ap₂ (λ (k : ℕ) (b : List ℕ). record { version = f .version; command = f .command; length = k; bytes = b }) (sym (length-append p t)) bytes)
+    let ok = le-leb (length p + length t) maxData fits in
+    rw ok (ap₂ (λ (k : ℕ) (b : List ℕ). record { version = f .version; command = f .command; length = k; bytes = b }) (sym (length-append p t)) (padded-more maxData p t fits))

@@ -6,12 +6,13 @@ use Prim.Native.Nat.{ℕ, _≤_}
 use native.Mathlib.Omega.{arith}
 use borrow.Author.Tests.{eq-eqb, eqb-true}
 use lib.ListN.{length, drop, drop-of-length-le}
-use Rattle.frames.specs.Frame.{Bytes, maxData, frameSize, Frame, encode, lengthAt, frameAt}
-use Rattle.frames.specs.Fronts.{frontOf, isWhole}
+use Rattle.sequences.specs.Bytes.{Bytes}
+use Rattle.fronts.specs.Frame.{maxData, frameSize, Frame, encode, lengthAt, frameAt}
+use Rattle.fronts.specs.Fronts.{frontOf, isWhole}
 use Rattle.frames.specs.Buffer.{wholeAt, dataAt, aloneAt, versionAt, commandAt, OneFrame, ReadsAlone}
-use Rattle.frames.proofs.Fronts.{is-whole, whole-passed}
-use Rattle.frames.proofs.Writes.{encode-size}
-use Rattle.frames.proofs.Encodings.{frame-encoded, front-encoded, encoded-whole, payload-size}
+use Rattle.fronts.proofs.Fronts.{is-whole, whole-passed}
+use Rattle.fronts.proofs.Sizes.{encode-size}
+use Rattle.fronts.proofs.Encodings.{frame-encoded, front-encoded, encoded-whole, payload-size}
 
 module _ (f : Frame) (small : length (f .payload) ≤ maxData) where
   whole : wholeAt (encode f) ≡ true

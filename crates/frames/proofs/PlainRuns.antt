@@ -2,7 +2,7 @@
 use mathlib.Core.Path.{_≡_, refl}
 use mathlib.Core.Bool.{Bool, true, false, cond}
 use mathlib.Core.List.{List, [], _∷_, _++_}
-use Rattle.frames.specs.Frame.{Frame}
+use Rattle.fronts.specs.Frame.{Frame}
 use Rattle.frames.specs.PlainRun.{plain}
 
 module _ {S R : Type 0} (step : S → Frame → S) (answer : S → Frame → List R) (s : S) where

@@ -10,13 +10,13 @@ use native.Mathlib.Numerals.{add-one}
 use native.Mathlib.Omega.{arith}
 use lib.ListN.{length, drop, getD}
 use lib.Seq.{slice, slice-empty, slice-cons, length-slice, drop-cons, drop-length, take-append-seam, drop-append-seam}
-use Rattle.frames.specs.declared.front.Front.the-variants.{Whole, Dead, Open}
-use Rattle.frames.specs.Frame.{maxFrame}
-use Rattle.frames.specs.Fronts.{frontOf, isWhole}
+use Rattle.fronts.specs.declared.front.Front.the-variants.{Whole, Dead, Open}
+use Rattle.fronts.specs.Frame.{maxFrame}
+use Rattle.fronts.specs.Fronts.{frontOf, isWhole}
 use Rattle.frames.specs.LiveReading.{CallResult, withFrame, withoutFrame, feedingCall, quietCall}
-use Rattle.frames.proofs.Fronts.{front-empty, dead-open}
-use Rattle.frames.proofs.MoreBytes.{open-short}
-use Rattle.frames.proofs.Slices.{slice-snoc}
+use Rattle.fronts.proofs.Fronts.{front-empty, dead-open}
+use Rattle.fronts.proofs.MoreBytes.{open-short}
+use Rattle.sequences.proofs.Slices.{slice-snoc}
 use Rattle.frames.proofs.Turns.{feeding-whole, feeding-dead, feeding-open, feeding-ends, quiet-drops}
 
 -- ---- a feeding call

@@ -5,14 +5,15 @@ use mathlib.Core.List.{List, [], _∷_, _++_}
 use Prim.Native.Nat.{ℕ, zero, suc, _+_, _≤_}
 use native.Mathlib.Omega.{arith}
 use lib.ListN.{length, drop, length-drop}
-use Rattle.frames.specs.declared.front.Front.the-variants.{Whole}
-use Rattle.frames.specs.Frame.{Bytes, maxData, headerSize, frameSize, Frame, encode, lengthAt, frameAt}
-use Rattle.frames.specs.Fronts.{frontOf, isWhole}
+use Rattle.fronts.specs.declared.front.Front.the-variants.{Whole}
+use Rattle.sequences.specs.Bytes.{Bytes}
+use Rattle.fronts.specs.Frame.{maxData, headerSize, frameSize, Frame, encode, lengthAt, frameAt}
+use Rattle.fronts.specs.Fronts.{frontOf, isWhole}
 use Rattle.frames.specs.Reading.{Reading, passing, dropping, readingFrom, reading}
 use Rattle.frames.specs.Series.{Series, none, stray, frame, ReadsSeries}
-use Rattle.frames.proofs.Bytes.{bytes-drop}
-use Rattle.frames.proofs.Fronts.{front-empty, whole-open, is-whole, whole-passed}
-use Rattle.frames.proofs.Encodings.{frame-encoded, behind-encoded, front-encoded, encoded-whole, payload-size}
+use Rattle.sequences.proofs.Bytes.{bytes-drop}
+use Rattle.fronts.proofs.Fronts.{front-empty, whole-open, is-whole, whole-passed}
+use Rattle.fronts.proofs.Encodings.{frame-encoded, behind-encoded, front-encoded, encoded-whole, payload-size}
 
 -- ---- the two steps of a reading
 

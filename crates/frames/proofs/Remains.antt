@@ -6,12 +6,13 @@ use mathlib.Core.List.{List, [], _++_, append-assoc, append-nil}
 use Prim.Native.Nat.{ℕ, _+_}
 use native.Mathlib.Omega.{arith}
 use lib.ListN.{drop}
-use Rattle.frames.specs.Frame.{Bytes, Frame}
+use Rattle.sequences.specs.Bytes.{Bytes}
+use Rattle.fronts.specs.Frame.{Frame}
 use Rattle.frames.specs.Reading.{Reading, reading}
 use Rattle.frames.specs.LiveReading.{CallResult, Call, called, due, calledThen}
 use Rattle.frames.specs.Series.{Series}
 use Rattle.frames.specs.PlainRun.{Plain, plain, Begins}
-use Rattle.frames.proofs.Bytes.{bytes-drop}
+use Rattle.sequences.proofs.Bytes.{bytes-drop}
 use Rattle.frames.proofs.Readings.{reading-none, series-read}
 use Rattle.frames.proofs.Calls.{call-law, call-keeps}
 use Rattle.frames.proofs.PlainRuns.{plain-none, plain-maybe}

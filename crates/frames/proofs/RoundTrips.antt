@@ -8,12 +8,14 @@ use borrow.Author.Tests.{leb-true}
 use lib.Dec.{leb}
 use lib.ListN.{length, take, drop}
 use lib.Seq.{take-at}
-use Rattle.frames.specs.Frame.{Bytes, maxData, frameSize, Frame, encode, lengthAt, frameAt}
-use Rattle.frames.specs.Fronts.{frontOf, isWhole}
+use Rattle.sequences.specs.Bytes.{Bytes}
+use Rattle.fronts.specs.Frame.{maxData, frameSize, Frame, encode, lengthAt, frameAt}
+use Rattle.fronts.specs.Fronts.{frontOf, isWhole}
 use Rattle.frames.specs.Buffer.{wholeAt, dataAt, writable, writtenSize, writtenRoom, RoundTrip}
-use Rattle.frames.proofs.Fronts.{is-whole, whole-passed}
-use Rattle.frames.proofs.Writes.{encode-size, writable-fits}
-use Rattle.frames.proofs.Encodings.{frame-encoded, front-encoded, encoded-whole, payload-size}
+use Rattle.fronts.proofs.Fronts.{is-whole, whole-passed}
+use Rattle.fronts.proofs.Sizes.{encode-size}
+use Rattle.frames.proofs.Writes.{writable-fits}
+use Rattle.fronts.proofs.Encodings.{frame-encoded, front-encoded, encoded-whole, payload-size}
 
 module _ (f : Frame) (room : List ℕ) (ok : writable f room ≡ true) where
   abbrev behind : List ℕ

@@ -6,16 +6,17 @@ use Prim.Native.Nat.{ℕ, suc, _+_, _-_, _≤_}
 use native.Mathlib.Omega.{arith}
 use lib.ListN.{length, drop, length-append, length-drop}
 use lib.Seq.{drop-append-le, drop-nil}
-use Rattle.frames.specs.declared.front.Front.{Front}
-use Rattle.frames.specs.declared.front.Front.the-variants.{Whole, Dead, Open}
-use Rattle.frames.specs.Frame.{Bytes, FrameBytes, maxData, maxFrame, headerSize, frameSize, Frame, lengthAt, frameAt}
-use Rattle.frames.specs.Fronts.{frontOf, isWhole}
+use Rattle.fronts.specs.declared.front.Front.{Front}
+use Rattle.fronts.specs.declared.front.Front.the-variants.{Whole, Dead, Open}
+use Rattle.sequences.specs.Bytes.{Bytes}
+use Rattle.fronts.specs.Frame.{FrameBytes, maxData, maxFrame, headerSize, frameSize, Frame, lengthAt, frameAt}
+use Rattle.fronts.specs.Fronts.{frontOf, isWhole}
 use Rattle.frames.specs.Reading.{Reading, passing, reading}
 use Rattle.frames.specs.LiveReading.{CallResult, withFrame, withoutFrame, feedingCall, calledThen}
-use Rattle.frames.proofs.Bytes.{bytes-append, bytes-drop, bytes-take, bytes-at}
-use Rattle.frames.proofs.Fronts.{front-empty, whole-passed}
-use Rattle.frames.proofs.MoreBytes.{length-more, whole-more, dead-more, frame-more, open-short}
-use Rattle.frames.proofs.Encodings.{payload-size}
+use Rattle.sequences.proofs.Bytes.{bytes-append, bytes-drop, bytes-take, bytes-at}
+use Rattle.fronts.proofs.Fronts.{front-empty, whole-passed}
+use Rattle.fronts.proofs.MoreBytes.{length-more, whole-more, dead-more, frame-more, open-short}
+use Rattle.fronts.proofs.Encodings.{payload-size}
 use Rattle.frames.proofs.Readings.{reading-whole, reading-stray}
 use Rattle.frames.proofs.Turns.{feeding-whole, feeding-dead, feeding-open, feeding-ends}
 

@@ -10,14 +10,14 @@ use borrow.Author.Tests.{eqb-true, eqb-false}
 use lib.Dec.{eqb}
 use lib.ListN.{length, drop, getD, List·getD-append}
 use lib.Seq.{slice, slice-empty, length-slice, take-length}
-use Rattle.frames.specs.declared.front.Front.the-variants.{Dead, Open}
-use Rattle.frames.specs.Frame.{head1, head2}
-use Rattle.frames.specs.Fronts.{frontOf, isWhole}
+use Rattle.fronts.specs.declared.front.Front.the-variants.{Dead, Open}
+use Rattle.fronts.specs.Frame.{head1, head2}
+use Rattle.fronts.specs.Fronts.{frontOf, isWhole}
 use Rattle.frames.specs.LiveReading.{quietCall}
 use Rattle.frames.specs.Scans.{Stray, Headless}
-use Rattle.frames.proofs.Orders.{lt-or-le}
-use Rattle.frames.proofs.Slices.{getD-right, getD-slice, getD-slice-first}
-use Rattle.frames.proofs.Fronts.{front-empty, dead-head1, open-head2, dead-head2}
+use Rattle.sequences.proofs.Orders.{lt-or-le}
+use Rattle.sequences.proofs.Slices.{getD-right, getD-slice, getD-slice-first}
+use Rattle.fronts.proofs.Fronts.{front-empty, dead-head1, open-head2, dead-head2}
 use Rattle.frames.proofs.Positions.{feedingAt, feeding-dead-at, feeding-open-at, quiet-drops-at}
 
 -- ---- how a search goes on

@@ -3,10 +3,10 @@ use mathlib.Core.Path.{_≡_, refl, sym, ap, _∙_}
 use mathlib.Core.Bool.{false}
 use mathlib.Core.List.{List, [], _∷_, _++_}
 use Prim.Native.Nat.{ℕ, _+_}
-use Rattle.frames.specs.declared.front.Front.the-variants.{Whole, Dead, Open}
-use Rattle.frames.specs.Fronts.{frontOf, isWhole}
+use Rattle.fronts.specs.declared.front.Front.the-variants.{Whole, Dead, Open}
+use Rattle.fronts.specs.Fronts.{frontOf, isWhole}
 use Rattle.frames.specs.LiveReading.{CallResult, withFrame, withoutFrame, looking, feedingCall, quietCall}
-use Rattle.frames.proofs.Fronts.{front-empty, whole-open}
+use Rattle.fronts.proofs.Fronts.{front-empty, whole-open}
 
 -- ---- the look at the held bytes
 

@@ -4,9 +4,9 @@ use mathlib.Core.Bool.{true, false}
 use mathlib.Core.List.{List, [], _∷_, _++_}
 use Prim.Native.Nat.{ℕ}
 use native.Mathlib.Omega.{arith}
-use Rattle.frames.specs.declared.front.Front.the-variants.{Dead, Open}
-use Rattle.frames.specs.Frame.{Frame, unsummed, encode, frameAt}
-use Rattle.frames.specs.Fronts.{frontOf}
+use Rattle.fronts.specs.declared.front.Front.the-variants.{Dead, Open}
+use Rattle.fronts.specs.Frame.{Frame, unsummed, encode, frameAt}
+use Rattle.fronts.specs.Fronts.{frontOf}
 use Rattle.frames.specs.Finished.{finished}
 use Rattle.frames.specs.Reading.{Reading, readingFrom, reading}
 use Rattle.frames.specs.Series.{Series}

@@ -8,16 +8,9 @@ use native.Mathlib.Omega.{arith}
 use borrow.Author.Tests.{le-leb, lt-leb}
 use lib.ListN.{length, take, drop, getD, set, length-append, length-drop}
 use lib.Seq.{slice-empty, sets, sets-eq, take-all, take-at, drop-drop, drop-cons, set-at}
-use Rattle.frames.specs.Frame.{head1, head2, maxData, headerSize, frameSize, sumByte, Frame, unsummed, encode}
+use Rattle.fronts.specs.Frame.{head1, head2, maxData, headerSize, frameSize, sumByte, Frame, unsummed, encode}
+use Rattle.fronts.proofs.Sizes.{unsummed-size}
 use Rattle.frames.specs.Buffer.{writable}
-
-pub unsummed-size : (f : Frame) → length (unsummed f) ≡ headerSize + length (f .payload)
-unfolding unsummed
-unsummed-size f = omega arith
-
-pub encode-size : (f : Frame) → length (encode f) ≡ frameSize (length (f .payload))
-unfolding encode
-encode-size f = omega (arith, unsummed-size f, length-append (unsummed f) (sumByte (unsummed f) ∷ []))
 
 -- ---- whether it is written
 

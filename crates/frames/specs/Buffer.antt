@@ -6,8 +6,9 @@ use mathlib.Core.List.{List, [], _++_}
 use Prim.Native.Nat.{ℕ, _≤_}
 use lib.Dec.{leb, eqb}
 use lib.ListN.{length, take, drop}
-use Rattle.frames.specs.Frame.{Bytes, maxData, frameSize, Frame, encode, lengthAt, frameAt}
-use Rattle.frames.specs.Fronts.{frontOf, isWhole}
+use Rattle.sequences.specs.Bytes.{Bytes}
+use Rattle.fronts.specs.Frame.{maxData, frameSize, Frame, encode, lengthAt, frameAt}
+use Rattle.fronts.specs.Fronts.{frontOf, isWhole}
 
 -- "Whether a whole frame begins at the buffer's first byte is a question of its own, answered yes exactly then"
 unfoldable pub wholeAt : List ℕ → Bool

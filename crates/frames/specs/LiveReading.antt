@@ -12,13 +12,15 @@ use mathlib.Core.List.{List, [], _∷_, _++_}
 use Prim.Native.Nat.{ℕ, _+_, _≤_, _<_}
 use lib.Dec.{leb}
 use lib.ListN.{length, take, drop}
-use Rattle.frames.specs.declared.front.Front.{Front}
-use Rattle.frames.specs.declared.front.Front.the-variants.{Whole, Dead, Open}
+use Rattle.fronts.specs.declared.front.Front.{Front}
+use Rattle.fronts.specs.declared.front.Front.the-variants.{Whole, Dead, Open}
 use Rattle.frames.specs.declared.reader.Reader.{Reader}
 use Rattle.frames.specs.declared.reader.Fed.{Fed}
-use Rattle.frames.specs.Frame.{Bytes, maxData, maxFrame, frameSize, Frame, FrameBytes, encode, lengthAt, frameAt}
-use Rattle.frames.specs.Fronts.{frontOf, isWhole}
-use Rattle.frames.specs.Finished.{padded, finished}
+use Rattle.sequences.specs.Bytes.{Bytes}
+use Rattle.fronts.specs.Frame.{maxData, maxFrame, frameSize, Frame, FrameBytes, encode, lengthAt, frameAt}
+use Rattle.fronts.specs.Fronts.{frontOf, isWhole}
+use Rattle.sequences.specs.Padding.{padded}
+use Rattle.frames.specs.Finished.{finished}
 use Rattle.frames.specs.Reading.{Reading, reading}
 use Rattle.frames.specs.Buffer.{writable, writtenSize, writtenRoom}
 

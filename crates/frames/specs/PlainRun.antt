@@ -2,7 +2,7 @@
 -- next, and any replies of a step. Assumes nothing.
 use mathlib.Core.Path.{_≡_}
 use mathlib.Core.List.{List, [], _∷_, _++_}
-use Rattle.frames.specs.Frame.{Frame}
+use Rattle.fronts.specs.Frame.{Frame}
 
 -- the state at its end, and all replies in order
 pub record Plain (S R : Type 0) : Type 0 where

@@ -3,8 +3,8 @@
 use mathlib.Core.Bool.{cond}
 use mathlib.Core.List.{List, [], _∷_}
 use Prim.Native.Nat.{ℕ, zero, suc, _+_}
-use Rattle.frames.specs.Frame.{headerSize, Frame, lengthAt, frameAt}
-use Rattle.frames.specs.Fronts.{frontOf, isWhole}
+use Rattle.fronts.specs.Frame.{headerSize, Frame, lengthAt, frameAt}
+use Rattle.fronts.specs.Fronts.{frontOf, isWhole}
 
 pub record Reading : Type 0 where
   pub frames : List Frame

@@ -6,10 +6,10 @@ use mathlib.Core.List.{List, _++_}
 use Prim.Native.Nat.{ℕ, _+_, _-_, _≤_, _<_}
 use lib.ListN.{length, getD}
 use lib.Seq.{slice}
-use Rattle.frames.specs.declared.front.Front.the-variants.{Whole, Open}
+use Rattle.fronts.specs.declared.front.Front.the-variants.{Whole, Open}
 use Rattle.frames.specs.declared.scan.Scan.{Scan}
-use Rattle.frames.specs.Frame.{head1, head2, maxFrame}
-use Rattle.frames.specs.Fronts.{frontOf}
+use Rattle.fronts.specs.Frame.{head1, head2, maxFrame}
+use Rattle.fronts.specs.Fronts.{frontOf}
 use Rattle.frames.specs.LiveReading.{CallResult, withFrame, withoutFrame}
 
 -- what is held where a scan stops
@@ -35,11 +35,6 @@ stoppedAt a b s =
 pub record Scanned (result : CallResult) (a b : List ℕ) (s : Scan) : Type 0 where
   pub stop : Stop a b s
   pub is : result ≡ stoppedAt a b s
-
--- The front of v from `from` on, open at `to`, stays open until `more` bytes more are there.
-pub record Missing (v : List ℕ) (from to more : ℕ) : Type 0 where
-  pub some : 0 < more
-  pub undecided : (t : ℕ) → to ≤ t → t < to + more → t ≤ length v → frontOf (slice from t v) ≡ Open
 
 -- 01, "The frame": "Bytes: 55, AA, ..". By those of the two that stand below `to`, no frame begins at place i of v.
 abbrev pub Stray : List ℕ → ℕ → ℕ → Type 0

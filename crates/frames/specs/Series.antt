@@ -5,8 +5,9 @@ use mathlib.Core.Bool.{false}
 use mathlib.Core.List.{List, [], _∷_, _++_}
 use Prim.Native.Nat.{ℕ, _+_, _≤_}
 use lib.ListN.{length}
-use Rattle.frames.specs.Frame.{Bytes, maxData, Frame, encode}
-use Rattle.frames.specs.Fronts.{frontOf, isWhole}
+use Rattle.sequences.specs.Bytes.{Bytes}
+use Rattle.fronts.specs.Frame.{maxData, Frame, encode}
+use Rattle.fronts.specs.Fronts.{frontOf, isWhole}
 use Rattle.frames.specs.Reading.{Reading, reading}
 
 -- `Series s fs n`: s is the frames fs in their order, with n stray bytes before, between and behind them, at none of which a whole

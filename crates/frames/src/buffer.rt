@@ -1,8 +1,8 @@
 // A frame at the first byte of a whole buffer. Bytes after the frame do not matter, but to `alone`.
-use crate::OVERHEAD;
-use crate::front::Front;
-use crate::front::front_of;
-use crate::header;
+use fronts::OVERHEAD;
+use fronts::front::Front;
+use fronts::front::front_of;
+use fronts::header;
 ghost use mathlib.Core.Path.{_≡_};
 ghost use Rattle.frames.specs.Buffer.{wholeAt, dataAt, aloneAt, versionAt, commandAt};
 

@@ -1,12 +1,13 @@
 // A finished frame by value.
-use crate::MAX_DATA;
 use crate::writer;
+use fronts::MAX_DATA;
+use sequences::place;
 ghost use mathlib.Core.Path.{_≡_};
 ghost use Prim.Native.Nat.{_+_, _≤_};
 ghost use lib.ListN.{length, take};
 ghost use Rattle.frames.specs.Buffer.{Written};
-ghost use Rattle.frames.specs.Frame.{maxData};
-ghost use Rattle.frames.specs.Places.{writtenAt};
+ghost use Rattle.fronts.specs.Frame.{maxData};
+ghost use Rattle.sequences.specs.Places.{writtenAt};
 ghost use Rattle.frames.specs.Finished.{frameOf, noData, extended};
 
 // The first `length` of `bytes` are its data; a frame that live reading finished has zeros after them.
@@ -42,12 +43,13 @@ impl FinishedFrame {
         if MAX_DATA - n < at {
             return self;
         }
-        let bytes = self.bytes;
+        let mut bytes = self.bytes;
+        place::write(&mut bytes, at, part);
         FinishedFrame {
             version: self.version,
             command: self.command,
             length: at + n,
-            bytes: with_part(bytes, at, part),
+            bytes,
         }
     }
 
@@ -58,15 +60,6 @@ impl FinishedFrame {
         let bytes = self.bytes;
         write_first(self.version, self.command, bytes, self.length, room)
     }
-}
-
-fn with_part(mut all: [u8; MAX_DATA], at: usize, part: &[u8]) -> [u8; MAX_DATA]
-    requires { ⌜ at + length (now part) ≤ maxData ⌝ }
-    ensures { λ r. ⌜ r ≡ writtenAt all at (now (part .entry)) ⌝ }
-{
-    let end = at + part.len();
-    bytes::copy(part, &mut all[at..end]);
-    all
 }
 
 // Writes the frame whose data are the first n bytes.

@@ -1,12 +1,12 @@
 // Live reading: bytes are fed as they come, and each call ends at its first whole frame. What may still become a frame stays held.
-use crate::MAX_FRAME;
 use crate::finished::FinishedFrame;
-use crate::hand_back;
+use crate::result;
 use crate::scan;
+use fronts::MAX_FRAME;
 ghost use mathlib.Core.Path.{_≡_};
 ghost use Prim.Native.Nat.{_≤_};
 ghost use lib.ListN.{take};
-ghost use Rattle.frames.specs.Frame.{maxFrame};
+ghost use Rattle.fronts.specs.Frame.{maxFrame};
 ghost use Rattle.frames.specs.LiveReading.{feedingCall, quietCall, handedBack, fed, quieted};
 
 // The first `count` of `held` are the held bytes.
@@ -33,7 +33,7 @@ impl Reader {
     {
         let count = self.count;
         if MAX_FRAME < count {
-            return hand_back::refused(self);
+            return result::refused(self);
         }
         feed_held(&self.held, count, input)
     }
@@ -44,7 +44,7 @@ impl Reader {
     {
         let count = self.count;
         if MAX_FRAME < count {
-            return hand_back::refused(self);
+            return result::refused(self);
         }
         quiet_held(&self.held, count)
     }
@@ -57,7 +57,7 @@ fn feed_held(held: &[u8; MAX_FRAME], count: usize, input: &[u8]) -> Fed
     let all: &[u8] = held;
     let a = &all[..count];
     let s = scan::feeding(a, input);
-    hand_back::stopped(a, input, s)
+    result::stopped(a, input, s)
 }
 
 fn quiet_held(held: &[u8; MAX_FRAME], count: usize) -> Fed
@@ -67,5 +67,5 @@ fn quiet_held(held: &[u8; MAX_FRAME], count: usize) -> Fed
     let all: &[u8] = held;
     let a = &all[..count];
     let s = scan::quiet(a);
-    hand_back::stopped(a, &a[..0], s)
+    result::stopped(a, &a[..0], s)
 }

@@ -1,16 +1,16 @@
 // How far one call of live reading goes: over the held bytes a and the new bytes b, read as one sequence with two positions. What is
 // held stands from `from` to `to`; what is dropped is passed by `from`, what is taken by `to`.
-use crate::front::Front;
-use crate::look::front_at;
-use crate::look::missing;
-use crate::parts::clip;
-use crate::parts::larger;
 use crate::search::next_head;
 use crate::search::next_head_of;
+use fronts::front::Front;
+use fronts::front::front_at;
+use fronts::front::missing;
+use sequences::bounds::larger;
+use sequences::bounds::smaller;
 ghost use Prim.Native.Nat.{_≤_};
 ghost use mathlib.Core.List.{[]};
 ghost use lib.ListN.{length};
-ghost use Rattle.frames.specs.Frame.{maxFrame};
+ghost use Rattle.fronts.specs.Frame.{maxFrame};
 ghost use Rattle.frames.specs.LiveReading.{feedingCall, quietCall};
 ghost use Rattle.frames.specs.Scans.{Scanned};
 
@@ -53,7 +53,7 @@ pub(crate) fn feeding(a: &[u8], b: &[u8]) -> Scan
                         found: false,
                     };
                 }
-                to += clip(missing(a, b, from, to), all - to);
+                to += smaller(missing(a, b, from, to), all - to);
             }
         }
     }

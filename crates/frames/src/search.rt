@@ -1,12 +1,12 @@
 // Where the next frame may begin: where both head bytes stand, or the first one as the last byte there is.
-use crate::header;
-use crate::parts::clip;
+use fronts::header;
+use sequences::bounds::smaller;
 ghost use mathlib.Core.Path.{_≡_};
 ghost use mathlib.Core.Bool.{false};
 ghost use mathlib.Core.List.{_++_};
 ghost use Prim.Native.Nat.{_+_, _≤_, _<_};
 ghost use lib.ListN.{length};
-ghost use Rattle.frames.specs.Frame.{head1, head2};
+ghost use Rattle.fronts.specs.Frame.{head1, head2};
 ghost use Rattle.frames.specs.Scans.{Stray, Headless, blockSize};
 
 // How many places are searched one by one at first, and then together: heads close to one another are not worth a whole block.
@@ -31,7 +31,7 @@ pub(crate) fn next_head(s: &[u8], from: usize, to: usize) -> usize
     requires { ⌜ (from ≤ to) × (to ≤ length (now s)) ⌝ }
     ensures { λ r. ⌜ Headless (now (s .entry)) from to r ⌝ }
 {
-    let near = first_head(s, from, clip(from + NEAR, to));
+    let near = first_head(s, from, smaller(from + NEAR, to));
     if near + 1 < from + NEAR {
         return near;
     }

@@ -8,14 +8,14 @@ use Prim.Native.Nat.{ℕ, _+_, _-_, _*_, _<_, _≤_}
 use native.Mathlib.Omega.{arith}
 use lib.ListN.{length, take, drop, set}
 use lib.Seq.{getD-set-same, getD-set-other}
-use Rattle.frames.proofs.Orders.{lt-or-le}
-use Rattle.frames.specs.Places.{writtenAt}
+use Rattle.sequences.proofs.Orders.{lt-or-le}
+use Rattle.sequences.proofs.Places.{written-there, written-before, written-behind}
+use Rattle.sequences.specs.Places.{writtenAt}
 use Rattle.link.specs.declared.frame.Frame.{Frame}
 use Rattle.link.specs.declared.link.Link.{Link}
-use Rattle.link.specs.Links.{placeOf, frameIn, withFrame, withBytes, passed}
+use Rattle.link.specs.Links.{ringPlace, frameIn, withSent, withBytes, passed}
 use Rattle.link.specs.Queues.{Fits, Behind, InOrder}
 use Rattle.link.proofs.Rings.{apart, moved-up}
-use Rattle.link.proofs.Memories.{read-back, read-before, read-behind}
 
 abbrev made : Bool → List ℕ → ℕ → Frame
 made b s n = record { «to_sender» = b; bytes = s; length = n }
@@ -25,7 +25,7 @@ all-three {b} {b′} {s} {s′} {n} {n′} e f g = ap₂ (λ (x : Bool) (y : Lis
 
 module _ (l : Link) (f : Frame) (memory : List ℕ) (fits : Fits l f memory) (most : l .count < 64) where
   abbrev p : ℕ
-  p = placeOf l (l .count)
+  p = ringPlace l (l .count)
 
   abbrev after : List ℕ
   after = withBytes l f memory
@@ -41,8 +41,8 @@ module _ (l : Link) (f : Frame) (memory : List ℕ) (fits : Fits l f memory) (mo
       let room = fits .room in
       let below = in-ring in
       ⊎-elim
-      (λ before. read-before memory b (p * 526) (q * 526) 526 (omega arith) (omega arith))
-      (λ least. ⊎-elim (λ above. ap (take 526) (read-behind memory b (p * 526) (q * 526) (omega arith) (omega arith))) (λ same. absurd (other (omega arith))) (lt-or-le p q))
+      (λ before. written-before memory b (p * 526) (q * 526) 526 (omega arith))
+      (λ least. ⊎-elim (λ above. ap (take 526) (written-behind memory b (p * 526) (q * 526) (omega arith))) (λ same. absurd (other (omega arith))) (lt-or-le p q))
       (lt-or-le q p)
 
   behind : Behind l f memory
@@ -52,14 +52,14 @@ module _ (l : Link) (f : Frame) (memory : List ℕ) (fits : Fits l f memory) (mo
       let lengths = fits .lengths in
       let ways = fits .ways in
       let below = in-ring in
-      let back = ap (λ (n : ℕ). take n (drop (p * 526) after)) (sym size) ∙ read-back memory (f .bytes) (p * 526) (omega arith) in
+      let back = ap (λ (n : ℕ). take n (drop (p * 526) after)) (sym size) ∙ written-there memory (f .bytes) (p * 526) (omega arith) in
       record {
         last = all-three (getD-set-same (l .«to_sender») p (f .«to_sender») false (omega arith)) back (getD-set-same (l .lengths) p (f .length) 0 (omega arith));
         others = λ i h.
-            let other : placeOf l i ≡ p → ⊥ = apart (l .first) i (l .count) h most in
-            all-three (getD-set-other (l .«to_sender») p (placeOf l i) (f .«to_sender») false other)
-            (bytes-stay (placeOf l i) other)
-            (getD-set-other (l .lengths) p (placeOf l i) (f .length) 0 other);
+            let other : ringPlace l i ≡ p → ⊥ = apart (l .first) i (l .count) h most in
+            all-three (getD-set-other (l .«to_sender») p (ringPlace l i) (f .«to_sender») false other)
+            (bytes-stay (ringPlace l i) other)
+            (getD-set-other (l .lengths) p (ringPlace l i) (f .length) 0 other);
       }
 
 -- an arrival leaves one frame less
@@ -73,5 +73,5 @@ in-order =
     record {
       sent = behind;
       arrived = λ l some memory i.
-          simp (ne-eqb _ _ (λ (none : l .count ≡ 0). absurd (omega arith)), moved-up (l .first) i (placeOf l 1) refl);
+          simp (ne-eqb _ _ (λ (none : l .count ≡ 0). absurd (omega arith)), moved-up (l .first) i (ringPlace l 1) refl);
     }

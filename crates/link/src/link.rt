@@ -1,12 +1,10 @@
 // The frames under way, both ways together, in the order in which they were sent.
 use crate::frame::Frame;
-use frames::MAX_FRAME;
+use crate::frame::SIZE;
+use sequences::place;
 ghost use mathlib.Core.Path.{_≡_};
-ghost use Prim.Native.Nat.{_+_, _*_, _%_, _≤_, _<_};
-ghost use lib.ListN.{length, take, drop};
-ghost use Rattle.frames.specs.Frame.{maxFrame};
-ghost use Rattle.frames.specs.Places.{writtenAt};
-ghost use Rattle.link.specs.Links.{places, noFrames, frameAt, withFrame, withBytes, sentLink, sentMemory, passed};
+ghost use Prim.Native.Nat.{_+_, _%_, _<_};
+ghost use Rattle.link.specs.Links.{places, placeStart, bytesAt, noFrames, frameUnderWay, withSent, withBytes, sentLink, sentMemory, passed};
 
 // How many frames can be under way.
 pub const PLACES: usize = 64;
@@ -47,12 +45,12 @@ impl Link {
 
     fn placed(mut self, frame: Frame, memory: &mut [u8; MEMORY]) -> Link
         requires { ⌜ self .count < places ⌝ }
-        ensures { λ r. ⌜ r ≡ withFrame self frame ⌝ }
+        ensures { λ r. ⌜ r ≡ withSent self frame ⌝ }
         ensures { λ _. ⌜ now (memory .exit) ≡ withBytes self frame (now (memory .entry)) ⌝ }
     {
         let at = place(self.first, self.count);
         let bytes = frame.bytes;
-        keep(bytes, at, memory);
+        place::write(memory, start(at), &bytes);
         self.lengths[at] = frame.length;
         self.to_sender[at] = frame.to_sender;
         self.count += 1;
@@ -61,7 +59,7 @@ impl Link {
 
     // The frame that arrives next.
     pub fn oldest(self, memory: &[u8; MEMORY]) -> Frame
-        ensures { λ r. ⌜ r ≡ frameAt self (now (memory .entry)) 0 ⌝ }
+        ensures { λ r. ⌜ r ≡ frameUnderWay self (now (memory .entry)) 0 ⌝ }
     {
         let at = place(self.first, 0);
         let lengths = self.lengths;
@@ -93,21 +91,19 @@ fn place(first: usize, i: usize) -> usize
     std::num::wrapping_add_usize(first, i) % PLACES
 }
 
-fn keep(bytes: [u8; MAX_FRAME], at: usize, memory: &mut [u8])
-    requires { ⌜ at * maxFrame + maxFrame ≤ length (now memory) ⌝ }
-    ensures { λ _. ⌜ now (memory .exit) ≡ writtenAt (now (memory .entry)) (at * maxFrame) bytes ⌝ }
+// Where the bytes at a place begin.
+fn start(place: usize) -> usize
+    requires { ⌜ place < places ⌝ }
+    ensures { λ r. ⌜ r ≡ placeStart place ⌝ }
 {
-    let from = at * MAX_FRAME;
-    bytes::copy(&bytes, &mut memory[from..]);
+    place * SIZE
 }
 
-fn kept(at: usize, memory: &[u8]) -> [u8; MAX_FRAME]
-    requires { ⌜ at * maxFrame + maxFrame ≤ length (now memory) ⌝ }
-    ensures { λ r. ⌜ r ≡ take maxFrame (drop (at * maxFrame) (now (memory .entry))) ⌝ }
+fn kept(at: usize, memory: &[u8; MEMORY]) -> [u8; SIZE]
+    requires { ⌜ at < places ⌝ }
+    ensures { λ r. ⌜ r ≡ bytesAt (now (memory .entry)) at ⌝ }
 {
-    let from = at * MAX_FRAME;
-    let end = from + MAX_FRAME;
-    let mut bytes = [0u8; MAX_FRAME];
-    bytes::copy(&memory[from..end], &mut bytes);
+    let mut bytes = [0u8; SIZE];
+    place::copy_out(memory, start(at), &mut bytes);
     bytes
 }

@@ -8,15 +8,14 @@
 //
 // A failed read or write is told on standard error and ends the program without the last line. Its exit status is 0 all the same: a
 // Rattle program has no other.
-mod bench;
-mod line;
-mod run;
-
+use bench::AREA;
+use capture::run::INPUT;
+use capture::run::Run;
+use capture::stage::Stage;
 use libc::STDERR_FILENO;
-use line::Line;
-use run::Run;
 use text::output::SIZE;
-use text::part::front;
+ghost use mathlib.Core.Path.{_≡_};
+ghost use Rattle.capture.specs.Stages.{readFailed};
 
 fn main() {
     let mut area = io::large_buffer();
@@ -28,7 +27,7 @@ fn main() {
 
 // Turns until the run is over. A proved loop has to end, and nothing says that the input does: the turns are counted down from a
 // number that no run uses up.
-fn replay(input: &mut [u8], output: &mut [u8; SIZE], area: &mut [u8]) -> Run {
+fn replay(input: &mut [u8; INPUT], output: &mut [u8; SIZE], area: &mut [u8; AREA]) -> Run {
     let mut run = Run::start(bench::open());
     let mut turns = u64::MAX;
     while turns > 0 {
@@ -43,18 +42,26 @@ fn replay(input: &mut [u8], output: &mut [u8; SIZE], area: &mut [u8]) -> Run {
 
 // What is left to say once the run is over. After a failed write this writes nothing more.
 fn report(run: Run, output: &mut [u8; SIZE]) {
-    if run.read_failed() {
+    let stage = run.stage;
+    if read_failed(stage) {
         complain(b"replay: cannot read standard input\n");
         return;
     }
-    let line = Line::end(run.dropped);
-    let bytes = line.bytes;
-    let lines = run.lines;
-    let written = lines
-        .text(front(&bytes, line.count), &mut *output)
-        .flush(output);
+    let account = run.account;
+    let written = account.end(&mut *output).flush(output);
     if written.failed {
         complain(b"replay: cannot write to standard output\n");
+    }
+}
+
+fn read_failed(stage: Stage) -> bool
+    ensures { λ r. ⌜ r ≡ readFailed stage ⌝ }
+{
+    match stage {
+        Stage::Feeding => false,
+        Stage::Quiet => false,
+        Stage::Ended => false,
+        Stage::ReadFailed => true,
     }
 }
 

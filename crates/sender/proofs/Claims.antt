@@ -1,37 +1,38 @@
 -- The claim about every call of the sender. Assumes nothing.
 use mathlib.Core.Path.{_≡_, refl, ap}
 use mathlib.Core.Bool.{Bool, false, _||_}
-use mathlib.Core.List.{List}
-use Prim.Native.Nat.{ℕ}
 use native.Mathlib.Omega.{arith}
-use Rattle.frames.proofs.Choices.{of-each}
+use Rattle.sequences.proofs.Conditionals.{of-each}
+use Rattle.sender.specs.declared.sender.Offer.{Offer}
 use Rattle.sender.specs.declared.opening.Opened.{Opened}
-use Rattle.sender.specs.Outcomes.{isAccepted}
-use Rattle.sender.specs.Senders.{noSender}
-use Rattle.sender.specs.Lawful.{badImage, unlawful}
-use Rattle.sender.specs.Opening.{freshSender, opened}
+use Rattle.commands.specs.Outcomes.{accepted}
+use Rattle.sender.specs.Senders.{freshSender, noSender}
+use Rattle.sender.specs.Rules.{badOffer, breaksRules}
+use Rattle.sender.specs.Opening.{openedSender}
 use Rattle.sender.specs.Kept.{SenderKeeps}
 use Rattle.sender.proofs.RequestReads.{number-fits}
 use Rattle.sender.proofs.Kept.{reply-keeps, silence-keeps}
 use Rattle.sender.proofs.Endings.{over-replied, over-silent, done-earned, done-silent}
 
-module _ (channel : ℕ) (pid version md5 : List ℕ) (size n : ℕ) where
-  pub fresh-lawful : badImage size n ≡ false → unlawful (freshSender channel pid version md5 size n) ≡ false
-  unfolding unlawful
+module _ (o : Offer) where
+  pub fresh-lawful : badOffer o ≡ false → breaksRules (freshSender o) ≡ false
+  unfolding breaksRules
   fresh-lawful e = ap (λ (b : Bool). b || false) e
 
-  open-lawful : opened channel pid version md5 size n .outcome ≡ isAccepted → unlawful (opened channel pid version md5 size n .sender) ≡ false
-  unfolding opened
+  open-lawful : openedSender o .outcome ≡ accepted → breaksRules (openedSender o .sender) ≡ false
+  unfolding openedSender
   open-lawful =
-      of-each (λ (o : Opened). o .outcome ≡ isAccepted → unlawful (o .sender) ≡ false) (badImage size n) _ _ (λ e z. absurd (omega arith)) (λ e z. fresh-lawful e)
+      of-each (λ (x : Opened). x .outcome ≡ accepted → breaksRules (x .sender) ≡ false) (badOffer o) _ _ (λ e z. absurd (omega arith))
+      (λ e z. fresh-lawful e)
 
-  open-none : (opened channel pid version md5 size n .outcome ≡ isAccepted → ⊥) → opened channel pid version md5 size n .sender ≡ noSender
-  unfolding opened
+  open-none : (openedSender o .outcome ≡ accepted → ⊥) → openedSender o .sender ≡ noSender
+  unfolding openedSender
   open-none =
-      of-each (λ (o : Opened). (o .outcome ≡ isAccepted → ⊥) → o .sender ≡ noSender) (badImage size n) _ _ (λ e z. refl) (λ e z. absurd (z refl))
+      of-each (λ (x : Opened). (x .outcome ≡ accepted → ⊥) → x .sender ≡ noSender)
+      (badOffer o) _ _ (λ e z. refl) (λ e z. absurd (z refl))
 
 pub sender-keeps : SenderKeeps
-unfolding unlawful
+unfolding breaksRules
 sender-keeps =
     record {
       opened-lawful = open-lawful;

@@ -1,73 +1,101 @@
 -- What a granting reply comes to, request by request. Assumes nothing.
-use mathlib.Core.Path.{_≡_, refl, ap₂, _∙_}
-use mathlib.Core.Bool.{Bool, cond}
+use mathlib.Core.Path.{_≡_, refl, ap, ap₂, _∙_}
+use mathlib.Core.Bool.{Bool, true, false, cond, _&&_}
 use mathlib.Core.List.{List}
 use Prim.Native.Nat.{ℕ, _+_, _≤_, _<_}
 use borrow.Author.Tests.{eq-eqb, le-ltb}
+use lib.Dec.{eqb}
 use lib.ListN.{length, take}
 use Rattle.crc.specs.Crc.{checksum, crc32}
+use Rattle.frames.specs.Buffer.{dataAt}
+use Rattle.commands.specs.States.{granted}
+use Rattle.commands.specs.Requests.{channelOf}
 use Rattle.commands.specs.declared.reply_fields.ReplyFA.{ReplyFA}
 use Rattle.commands.specs.declared.reply_fields.ReplyFB.{ReplyFB}
 use Rattle.commands.specs.declared.reply_fields.ReplyFC.{ReplyFC}
 use Rattle.commands.specs.declared.reply_fields.ReplyState.{ReplyState}
+use Rattle.commands.specs.ReplyFields.{isReply, fieldsFA, fieldsFB, fieldsFC, fieldsState}
 use Rattle.commands.specs.Replies.{replyFA, replyFB, replyFC, replyState}
-use Rattle.commands.specs.RoundTrips.{max32, replyBytes}
+use Rattle.sequences.specs.Numbers.{max32}
+use Rattle.commands.specs.RoundTrips.{replyBytes}
 use Rattle.commands.proofs.RoundTrips.{replies-read-back}
 use Rattle.sender.specs.declared.phase.Phase.{Phase}
 use Rattle.sender.specs.declared.phase.Phase.the-variants.{Asking, Telling, Placing, Sending, Ending}
+use Rattle.sender.specs.declared.decision.Decided.{Decided}
 use Rattle.sender.specs.declared.sender.Sender.{Sender}
-use Rattle.sender.specs.Outcomes.{isAccepted, wrongReply}
-use Rattle.sender.specs.Phases.{byPhase}
-use Rattle.sender.specs.Senders.{nextSize, moved}
-use Rattle.sender.specs.Decisions.{refused, goOn, done}
-use Rattle.sender.specs.Requests.{refusalOf}
-use Rattle.sender.specs.Replies.{judgedFA, judgedFB, judgedFC, judgedFD, judgedFE, resumeAt, onward, repliedFA, repliedFB, repliedFC, repliedFD, repliedFE, repliedIn, replied}
+use Rattle.commands.specs.Outcomes.{accepted, wrongReply}
+use Rattle.sender.specs.Phases.{byPhase, commandOf}
+use Rattle.sender.specs.Senders.{nextSize, movedTo}
+use Rattle.sender.specs.Decisions.{nothingDecided, goOn, done}
+use Rattle.sender.specs.Requests.{senderRefusal}
+use Rattle.sender.specs.Replies.{ownReply, judgedFA, judgedFB, judgedFC, judgedFD, judgedFE, resumeAt, onward, judgedIn, afterReply}
 
-module _ (s : Sender) (image : List ℕ) (ok : refusalOf s (length image) ≡ isAccepted) where
-  -- a call that is not refused, in its phase
-  in-phase : (b : List ℕ) (p : Phase) → s .phase ≡ p → replied s image b
-      ≡ byPhase p (repliedFA s b) (repliedFB s b image) (repliedFC s b) (repliedFD s b) (repliedFE s b) (refused s wrongReply) (refused s wrongReply)
-  unfolding replied repliedIn
-  in-phase b p is = simp (ok, is)
+module _ (s : Sender) (image : List ℕ) (ok : senderRefusal s (length image) ≡ accepted) where
+  abbrev channel : ℕ
+  channel = s .offer .channel
 
-  pub granted-fa : (soft : List ℕ) → s .phase ≡ Asking → replied s image (replyBytes 0xFA (replyFA (s .channel) 0 soft)) ≡ goOn (moved s Telling 0 0)
-  unfolding repliedFA judgedFA
+  -- what the phase makes of the reply's data
+  abbrev InPhase : Phase → List ℕ → Decided
+  InPhase p d =
+      byPhase p
+      (judgedFA s (fieldsFA d))
+      (judgedFB s (fieldsFB d) image)
+      (judgedFC s (fieldsFC d))
+      (judgedFD s (fieldsState d))
+      (judgedFE s (fieldsState d))
+      (nothingDecided s wrongReply)
+      (nothingDecided s wrongReply)
+
+  -- the reply to the request, on the channel, is judged
+  in-phase : (b : List ℕ) (p : Phase) → s .position .phase ≡ p → isReply (commandOf p) b ≡ true → channelOf (dataAt b) ≡ channel
+      → afterReply s image b ≡ InPhase p (dataAt b)
+  unfolding afterReply judgedIn ownReply
+  in-phase b p is own same = simp (ok, is, own, eq-eqb (channelOf (dataAt b)) channel same)
+
+  pub granted-fa : (soft : List ℕ) → s .position .phase ≡ Asking
+      → afterReply s image (replyBytes 0xFA (replyFA channel granted soft)) ≡ goOn (movedTo s Telling 0 0)
+  unfolding judgedFA fieldsFA
   granted-fa soft is =
-      let b = replyBytes 0xFA (replyFA (s .channel) 0 soft) in
-      in-phase b Asking is
-      ∙ ap₂ (λ (x : Bool) (r : ReplyFA). cond x (judgedFA s r) (refused s wrongReply)) (replies-read-back .fa-reply (s .channel) 0 soft) (replies-read-back .fa (s .channel) 0 soft)
-      ∙ simp (eq-eqb (s .channel) (s .channel) refl)
+      let b = replyBytes 0xFA (replyFA channel granted soft) in
+      let r = replies-read-back .fa channel granted soft in
+      in-phase b Asking is (replies-read-back .fa-reply channel granted soft) (ap (λ (x : ReplyFA). x .channel) r) ∙ ap (judgedFA s) r
 
-  pub granted-fb : (stored : ℕ) → s .phase ≡ Telling → stored ≤ length image → stored < max32 → checksum crc32 (take stored image) < max32
-      → replied s image (replyBytes 0xFB (replyFB (s .channel) 0 stored (checksum crc32 (take stored image)))) ≡ goOn (moved s Placing stored 0)
-  unfolding repliedFB judgedFB resumeAt
+  pub granted-fb : (stored : ℕ) → s .position .phase ≡ Telling → stored ≤ length image → stored < max32
+      → checksum crc32 (take stored image) < max32
+      → afterReply s image (replyBytes 0xFB (replyFB channel granted stored (checksum crc32 (take stored image))))
+      ≡ goOn (movedTo s Placing stored 0)
+  unfolding judgedFB fieldsFB resumeAt
   granted-fb stored is fits small crc =
       let sum = checksum crc32 (take stored image) in
-      let b = replyBytes 0xFB (replyFB (s .channel) 0 stored sum) in
-      in-phase b Telling is
-      ∙ ap₂ (λ (x : Bool) (r : ReplyFB). cond x (judgedFB s r image) (refused s wrongReply)) (replies-read-back .fb-reply (s .channel) 0 stored sum) (replies-read-back .fb (s .channel) 0 stored sum small crc)
-      ∙ simp (eq-eqb (s .channel) (s .channel) refl, le-ltb (length image) stored fits, eq-eqb sum sum refl)
+      let b = replyBytes 0xFB (replyFB channel granted stored sum) in
+      let r = replies-read-back .fb channel granted stored sum small crc in
+      in-phase b Telling is (replies-read-back .fb-reply channel granted stored sum) (ap (λ (x : ReplyFB). x .channel) r)
+      ∙ ap (λ (x : ReplyFB). judgedFB s x image) r
+      ∙ simp (le-ltb (length image) stored fits, eq-eqb sum sum refl)
 
-  pub granted-fc : s .phase ≡ Placing → s .place < max32 → replied s image (replyBytes 0xFC (replyFC (s .channel) (s .place))) ≡ goOn (onward s (s .place) 0)
-  unfolding repliedFC judgedFC
+  pub granted-fc : s .position .phase ≡ Placing → s .position .place < max32
+      → afterReply s image (replyBytes 0xFC (replyFC channel (s .position .place))) ≡ goOn (onward s (s .position .place) 0)
+  unfolding judgedFC fieldsFC
   granted-fc is small =
-      let b = replyBytes 0xFC (replyFC (s .channel) (s .place)) in
-      in-phase b Placing is
-      ∙ ap₂ (λ (x : Bool) (r : ReplyFC). cond x (judgedFC s r) (refused s wrongReply)) (replies-read-back .fc-reply (s .channel) (s .place)) (replies-read-back .fc (s .channel) (s .place) small)
-      ∙ simp (eq-eqb (s .channel) (s .channel) refl, eq-eqb (s .place) (s .place) refl)
+      let place = s .position .place in
+      let b = replyBytes 0xFC (replyFC channel place) in
+      let r = replies-read-back .fc channel place small in
+      in-phase b Placing is (replies-read-back .fc-reply channel place) (ap (λ (x : ReplyFC). x .channel) r)
+      ∙ ap (judgedFC s) r
+      ∙ simp (eq-eqb place place refl)
 
-  pub granted-fd : s .phase ≡ Sending → replied s image (replyBytes 0xFD (replyState (s .channel) 0)) ≡ goOn (onward s (s .place + nextSize s) (s .number + 1))
-  unfolding repliedFD judgedFD
+  pub granted-fd : s .position .phase ≡ Sending
+      → afterReply s image (replyBytes 0xFD (replyState channel granted))
+      ≡ goOn (onward s (s .position .place + nextSize s) (s .position .number + 1))
+  unfolding judgedFD fieldsState
   granted-fd is =
-      let b = replyBytes 0xFD (replyState (s .channel) 0) in
-      in-phase b Sending is
-      ∙ ap₂ (λ (x : Bool) (r : ReplyState). cond x (judgedFD s r) (refused s wrongReply)) (replies-read-back .fd-reply (s .channel) 0) (replies-read-back .fd (s .channel) 0)
-      ∙ simp (eq-eqb (s .channel) (s .channel) refl)
+      let b = replyBytes 0xFD (replyState channel granted) in
+      let r = replies-read-back .fd channel granted in
+      in-phase b Sending is (replies-read-back .fd-reply channel granted) (ap (λ (x : ReplyState). x .channel) r) ∙ ap (judgedFD s) r
 
-  pub granted-fe : s .phase ≡ Ending → replied s image (replyBytes 0xFE (replyState (s .channel) 0)) ≡ done s
-  unfolding repliedFE judgedFE
+  pub granted-fe : s .position .phase ≡ Ending → afterReply s image (replyBytes 0xFE (replyState channel granted)) ≡ done s
+  unfolding judgedFE fieldsState
   granted-fe is =
-      let b = replyBytes 0xFE (replyState (s .channel) 0) in
-      in-phase b Ending is
-      ∙ ap₂ (λ (x : Bool) (r : ReplyState). cond x (judgedFE s r) (refused s wrongReply)) (replies-read-back .fe-reply (s .channel) 0) (replies-read-back .fe (s .channel) 0)
-      ∙ simp (eq-eqb (s .channel) (s .channel) refl)
+      let b = replyBytes 0xFE (replyState channel granted) in
+      let r = replies-read-back .fe channel granted in
+      in-phase b Ending is (replies-read-back .fe-reply channel granted) (ap (λ (x : ReplyState). x .channel) r) ∙ ap (judgedFE s) r

@@ -1,6 +1,6 @@
--- What every call keeps, and what alone leads to done. Assumes nothing.
+-- What every call keeps. Assumes nothing.
 use mathlib.Core.Path.{_≡_, refl, sym, ap, _∙_}
-use mathlib.Core.Bool.{true, false}
+use mathlib.Core.Bool.{true, false, not, _||_}
 use mathlib.Core.List.{List}
 use Prim.Native.Nat.{ℕ, _+_, _*_, _-_, _≤_, _<_}
 use native.Mathlib.Nat.{zero-mul, add-mul, one-mul}
@@ -10,36 +10,31 @@ use lib.Dec.{ltb, eqb}
 use lib.ListN.{length, take}
 use Rattle.crc.specs.Crc.{checksum, crc32}
 use Rattle.frames.specs.Buffer.{dataAt}
-use Rattle.frames.proofs.Choices.{of-both, of-each}
+use Rattle.sequences.proofs.Conditionals.{of-both, of-each}
+use Rattle.commands.specs.Limits.{maxPacket}
+use Rattle.commands.specs.States.{granted, deniedFA, badLengthFB, notReceivingFD, neverSentFE, refusedFE}
+use Rattle.commands.specs.declared.reply_fields.ReplyFA.{ReplyFA}
 use Rattle.commands.specs.declared.reply_fields.ReplyFB.{ReplyFB}
-use Rattle.commands.specs.ReplyFields.{isReply, fieldsFA, fieldsFB, fieldsFC, fieldsState}
+use Rattle.commands.specs.declared.reply_fields.ReplyFC.{ReplyFC}
+use Rattle.commands.specs.declared.reply_fields.ReplyState.{ReplyState}
+use Rattle.commands.specs.ReplyFields.{fieldsFA, fieldsFB, fieldsFC, fieldsState}
 use Rattle.sender.specs.declared.phase.Phase.{Phase}
 use Rattle.sender.specs.declared.phase.Phase.the-variants.{Asking, Telling, Placing, Sending, Ending, Done, GivenUp}
 use Rattle.sender.specs.declared.decision.Decision.{Decision}
 use Rattle.sender.specs.declared.decision.Decision.the-variants as decision
 use Rattle.sender.specs.declared.sender.Sender.{Sender}
-use Rattle.sender.specs.Outcomes.{isAccepted, wrongReply}
+use Rattle.commands.specs.Outcomes.{accepted, wrongReply}
 use Rattle.sender.specs.Phases.{byPhase}
-use Rattle.sender.specs.Senders.{maxSilences, maxLegs, packetSize, nextSize, begun, again}
-use Rattle.sender.specs.Lawful.{unlawful}
-use Rattle.sender.specs.Decisions.{refused, decided, goOn, givenUp, legOver}
-use Rattle.sender.specs.Requests.{refusalOf}
-use Rattle.sender.specs.Replies.{wrongFA, wrongFB, wrongFC, wrongFD, wrongFE, judgedFA, judgedFB, judgedFC, judgedFD, judgedFE, resumeAt, onward, repliedFA, repliedFB, repliedFC, repliedFD, repliedFE, repliedIn, replied}
-use Rattle.sender.specs.Silences.{unheard, silentIn, silent}
-use Rattle.sender.specs.Kept.{SameImage, Keeps}
-use Rattle.sender.proofs.Lawfuls.{lawful, lawful-accepted}
+use Rattle.sender.specs.Senders.{maxSilences, maxLegs, packetSize, nextSize, begun, movedTo, again}
+use Rattle.sender.specs.Rules.{breaksRules}
+use Rattle.sender.specs.Decisions.{nothingDecided, decided, goOn, givenUp, legOver}
+use Rattle.sender.specs.Requests.{senderRefusal}
+use Rattle.sender.specs.Replies.{ownReply, judgedFA, judgedFB, judgedFC, judgedFD, judgedFE, resumeAt, onward, judgedIn, afterReply}
+use Rattle.sender.specs.Silences.{unheard, silentIn, afterSilence}
+use Rattle.sender.specs.Kept.{Keeps}
+use Rattle.sender.proofs.Phases.{of-phase}
+use Rattle.sender.proofs.RulesKept.{lawful, lawful-accepted}
 use Rattle.sender.proofs.Refusals.{same-length}
-
--- what holds of each phase's choice holds of the choice
-pub of-phase : {A : Type 0} (P : A → Type 0) (p : Phase) (a b c d e f g : A) → (p ≡ Asking → P a) → (p ≡ Telling → P b) → (p ≡ Placing → P c)
-    → (p ≡ Sending → P d) → (p ≡ Ending → P e) → (p ≡ Done → P f) → (p ≡ GivenUp → P g) → P (byPhase p a b c d e f g)
-of-phase P Asking a b c d e f g pa pb pc pd pe pf pg = pa refl
-of-phase P Telling a b c d e f g pa pb pc pd pe pf pg = pb refl
-of-phase P Placing a b c d e f g pa pb pc pd pe pf pg = pc refl
-of-phase P Sending a b c d e f g pa pb pc pd pe pf pg = pd refl
-of-phase P Ending a b c d e f g pa pb pc pd pe pf pg = pe refl
-of-phase P Done a b c d e f g pa pb pc pd pe pf pg = pf refl
-of-phase P GivenUp a b c d e f g pa pb pc pd pe pf pg = pg refl
 
 -- the phases in which place and number are not looked at
 abbrev pub Free : Phase → Type 0
@@ -54,30 +49,55 @@ free p e =
     false-true : false ≡ true → ⊥
     false-true e = let z : _≡_ {A = ℕ} 0 1 = cc in omega arith
 
--- ---- lawful records
-
 module _ (s : Sender) where
+  -- ---- records that keep the rules
+
   -- another request: its place and number are those of its phase
-  pub begun-lawful : (p : Phase) (place number legs : ℕ) → legs ≤ maxLegs → (p ≡ Placing → place ≤ s .length) → (p ≡ Sending → place < s .length)
-      → (p ≡ Sending → number * packetSize (s .size) ≤ place) → unlawful s ≡ false → unlawful (begun s p place number legs) ≡ false
-  begun-lawful p place number legs few placing sending numbered ok =
+  pub moved-lawful : (p : Phase) (place number : ℕ) → (p ≡ Placing → place ≤ s .offer .length) → (p ≡ Sending → place < s .offer .length)
+      → (p ≡ Sending → number * packetSize (s .offer .size) ≤ place) → breaksRules s ≡ false
+      → breaksRules (movedTo s p place number) ≡ false
+  moved-lawful p place number placing sending numbered ok =
       let l = lawful s ok in
-      lawful-accepted (begun s p place number legs)
+      lawful-accepted (movedTo s p place number)
+      (record {
+        least-size = l .least-size;
+        some-image = l .some-image;
+        most-image = l .most-image;
+        silences = omega arith;
+        legs = l .legs;
+        placing = placing;
+        sending = sending;
+        numbered = numbered;
+      })
+
+  pub free-lawful : (p : Phase) → Free p → breaksRules s ≡ false → breaksRules (movedTo s p 0 0) ≡ false
+  free-lawful p free = moved-lawful p 0 0 (λ q. absurd (free .0 q)) (λ q. absurd (free .1 q)) (λ q. absurd (free .1 q))
+
+  pub placing-lawful : (place : ℕ) → place ≤ s .offer .length → breaksRules s ≡ false → breaksRules (movedTo s Placing place 0) ≡ false
+  placing-lawful place fits =
+      moved-lawful Placing place 0 (λ q. fits) (λ q. let z : _≡_ {A = ℕ} 0 1 = cc in absurd (omega arith))
+      (λ q. let z : _≡_ {A = ℕ} 0 1 = cc in absurd (omega arith))
+
+  pub sending-lawful : (place number : ℕ) → place < s .offer .length → number * packetSize (s .offer .size) ≤ place → breaksRules s ≡ false
+      → breaksRules (movedTo s Sending place number) ≡ false
+  sending-lawful place number below numbered = moved-lawful Sending place number (λ q. omega arith) (λ q. below) (λ q. numbered)
+
+  begun-lawful : (legs : ℕ) → legs ≤ maxLegs → breaksRules s ≡ false → breaksRules (begun (s .offer) legs) ≡ false
+  begun-lawful legs few ok =
+      let l = lawful s ok in
+      lawful-accepted (begun (s .offer) legs)
       (record {
         least-size = l .least-size;
         some-image = l .some-image;
         most-image = l .most-image;
         silences = omega arith;
         legs = few;
-        placing = placing;
-        sending = sending;
-        numbered = numbered;
+        placing = λ q. absurd (free Asking refl .0 q);
+        sending = λ q. absurd (free Asking refl .1 q);
+        numbered = λ q. absurd (free Asking refl .1 q);
       })
 
-  pub free-lawful : (p : Phase) (legs : ℕ) → Free p → legs ≤ maxLegs → unlawful s ≡ false → unlawful (begun s p 0 0 legs) ≡ false
-  free-lawful p legs free few = begun-lawful p 0 0 legs few (λ q. absurd (free .0 q)) (λ q. absurd (free .1 q)) (λ q. absurd (free .1 q))
-
-  again-lawful : s .silences < maxSilences → unlawful s ≡ false → unlawful (again s) ≡ false
+  again-lawful : s .tries .silences < maxSilences → breaksRules s ≡ false → breaksRules (again s) ≡ false
   again-lawful few ok =
       let l = lawful s ok in
       lawful-accepted (again s)
@@ -94,49 +114,37 @@ module _ (s : Sender) where
 
   -- ---- decisions
 
-  same : SameImage s s
-  same = record { channel = refl; pid = refl; version = refl; md5 = refl; size = refl; size-of = refl }
+  refused-keeps : (k : ℕ) → Keeps s (nothingDecided s k)
+  refused-keeps k = record { lawful = λ ok. ok; offer = refl; unchanged = λ n. refl }
 
-  refused-keeps : (k : ℕ) → Keeps s (refused s k)
-  refused-keeps k = record { lawful = λ ok. ok; image = same; unchanged = λ n. refl }
+  -- another record of the same image
+  decided-keeps : (d : Decision) (t : Sender) → t .offer ≡ s .offer → (breaksRules s ≡ false → breaksRules t ≡ false)
+      → Keeps s (decided d t)
+  decided-keeps d t same ok = record { lawful = ok; offer = same; unchanged = λ n. absurd (n refl) }
 
-  moved-keeps : (d : Decision) (p : Phase) (place number legs : ℕ) → (unlawful s ≡ false → unlawful (begun s p place number legs) ≡ false)
-      → Keeps s (decided d (begun s p place number legs))
-  moved-keeps d p place number legs ok =
-      record {
-        lawful = ok;
-        image = record { channel = refl; pid = refl; version = refl; md5 = refl; size = refl; size-of = refl };
-        unchanged = λ n. absurd (n refl);
-      }
+  moved-keeps : (d : Decision) (p : Phase) → Free p → Keeps s (decided d (movedTo s p 0 0))
+  moved-keeps d p is = decided-keeps d (movedTo s p 0 0) refl (free-lawful p is)
 
   given-up-keeps : Keeps s (givenUp s)
-  given-up-keeps =
-      moved-keeps decision.GivenUp GivenUp 0 0 (s .«new_legs»)
-      (λ ok. free-lawful GivenUp (s .«new_legs») (free GivenUp refl) (lawful s ok .legs) ok)
+  given-up-keeps = moved-keeps decision.GivenUp GivenUp (free GivenUp refl)
 
   leg-over-keeps : Keeps s (legOver s)
   unfolding legOver
   leg-over-keeps =
-      of-each (Keeps s) (ltb (s .«new_legs») maxLegs) _ _
+      let legs = s .tries .«new_legs» in
+      of-each (Keeps s) (ltb legs maxLegs) _ _
       (λ e.
-      let few = ltb-true (s .«new_legs») maxLegs e in
-      moved-keeps decision.NewLeg Asking 0 0 (s .«new_legs» + 1)
-      (free-lawful Asking (s .«new_legs» + 1) (free Asking refl) (omega arith)))
+      let few = ltb-true legs maxLegs e in
+      decided-keeps decision.NewLeg (begun (s .offer) (legs + 1)) refl (begun-lawful (legs + 1) (omega arith)))
       (λ e. given-up-keeps)
 
   -- ---- replies
 
-  fa-keeps : (b : List ℕ) → Keeps s (repliedFA s b)
-  unfolding repliedFA judgedFA
-  fa-keeps b =
-      let r = fieldsFA (dataAt b) in
-      of-both (Keeps s) (isReply 0xFA b) _ _
-      (of-both (Keeps s) (wrongFA s r) _ _ (refused-keeps wrongReply)
-      (of-both (Keeps s) (eqb (r .flag) 0) _ _
-      (moved-keeps decision.GoOn Telling 0 0 (s .«new_legs»)
-      (λ ok. free-lawful Telling (s .«new_legs») (free Telling refl) (lawful s ok .legs) ok))
-      given-up-keeps))
-      (refused-keeps wrongReply)
+  fa-keeps : (r : ReplyFA) → Keeps s (judgedFA s r)
+  unfolding judgedFA
+  fa-keeps r =
+      of-both (Keeps s) (ltb deniedFA (r .flag) || not (eqb (r .len2) maxPacket)) _ _ (refused-keeps wrongReply)
+      (of-both (Keeps s) (eqb (r .flag) granted) _ _ (moved-keeps decision.GoOn Telling (free Telling refl)) given-up-keeps)
 
   resume-fits : (r : ReplyFB) (image : List ℕ) → resumeAt r image ≤ length image
   unfolding resumeAt
@@ -145,102 +153,95 @@ module _ (s : Sender) where
       of-each P (ltb (length image) (r .stored)) _ _ (λ e. omega arith)
       (λ e. of-both P (eqb (checksum crc32 (take (r .stored) image)) (r .crc)) _ _ (ltb-false (length image) (r .stored) e) (omega arith))
 
-  fb-keeps : (b image : List ℕ) → length image ≡ s .length → Keeps s (repliedFB s b image)
-  unfolding repliedFB judgedFB
-  fb-keeps b image size =
-      let r = fieldsFB (dataAt b) in
-      let fits : resumeAt r image ≤ s .length = omega (arith, resume-fits r image) in
-      of-both (Keeps s) (isReply 0xFB b) _ _
-      (of-both (Keeps s) (wrongFB s r) _ _ (refused-keeps wrongReply)
-      (of-both (Keeps s) (eqb (r .state) 0) _ _
-      (moved-keeps decision.GoOn Placing (resumeAt r image) 0 (s .«new_legs»)
-      (λ ok. begun-lawful Placing (resumeAt r image) 0 (s .«new_legs») (lawful s ok .legs) (λ q. fits) (λ q. let z : _≡_ {A = ℕ} 0 1 = cc in absurd (omega arith)) (λ q. let z : _≡_ {A = ℕ} 0 1 = cc in absurd (omega arith)) ok))
-      given-up-keeps))
-      (refused-keeps wrongReply)
+  fb-keeps : (r : ReplyFB) (image : List ℕ) → length image ≡ s .offer .length → Keeps s (judgedFB s r image)
+  unfolding judgedFB
+  fb-keeps r image size =
+      let place = resumeAt r image in
+      let fits : place ≤ s .offer .length = omega (arith, resume-fits r image) in
+      of-both (Keeps s) (ltb badLengthFB (r .state)) _ _ (refused-keeps wrongReply)
+      (of-both (Keeps s) (eqb (r .state) granted) _ _
+      (decided-keeps decision.GoOn (movedTo s Placing place 0) refl (placing-lawful place fits)) given-up-keeps)
 
   -- the packet at a place below the image's end, or the end
-  onward-keeps : (place number : ℕ) → (unlawful s ≡ false → place < s .length → number * packetSize (s .size) ≤ place) → Keeps s (goOn (onward s place number))
+  onward-keeps : (place number : ℕ) → (breaksRules s ≡ false → place < s .offer .length → number * packetSize (s .offer .size) ≤ place)
+      → Keeps s (goOn (onward s place number))
   unfolding onward
   onward-keeps place number numbered =
-      of-each (λ (t : Sender). Keeps s (goOn t)) (ltb place (s .length)) _ _
+      of-each (λ (t : Sender). Keeps s (goOn t)) (ltb place (s .offer .length)) _ _
       (λ e.
-      let below = ltb-true place (s .length) e in
-      moved-keeps decision.GoOn Sending place number (s .«new_legs»)
-      (λ ok. begun-lawful Sending place number (s .«new_legs») (lawful s ok .legs) (λ q. let z : _≡_ {A = ℕ} 0 1 = cc in absurd (omega arith)) (λ q. below) (λ q. numbered ok below) ok))
-      (λ e.
-      moved-keeps decision.GoOn Ending 0 0 (s .«new_legs»)
-      (λ ok. free-lawful Ending (s .«new_legs») (free Ending refl) (lawful s ok .legs) ok))
+      let below = ltb-true place (s .offer .length) e in
+      decided-keeps decision.GoOn (movedTo s Sending place number) refl (λ ok. sending-lawful place number below (numbered ok below) ok))
+      (λ e. moved-keeps decision.GoOn Ending (free Ending refl))
 
-  fc-keeps : (b : List ℕ) → Keeps s (repliedFC s b)
-  unfolding repliedFC judgedFC
-  fc-keeps b =
-      let r = fieldsFC (dataAt b) in
-      of-both (Keeps s) (isReply 0xFC b) _ _
-      (of-both (Keeps s) (wrongFC s r) _ _ (refused-keeps wrongReply)
-      (onward-keeps (r .offset) 0 (λ ok below. let none = zero-mul (packetSize (s .size)) in omega arith)))
-      (refused-keeps wrongReply)
+  fc-keeps : (r : ReplyFC) → Keeps s (judgedFC s r)
+  unfolding judgedFC
+  fc-keeps r =
+      of-both (Keeps s) (not (eqb (r .offset) (s .position .place) || eqb (r .offset) 0)) _ _ (refused-keeps wrongReply)
+      (onward-keeps (r .offset) 0 (λ ok below. let none = zero-mul (packetSize (s .offer .size)) in omega arith))
 
   -- a packet before the end is a whole one
-  pub next-number : s .phase ≡ Sending → unlawful s ≡ false → s .place + nextSize s < s .length → (s .number + 1) * packetSize (s .size) ≤ s .place + nextSize s
+  pub next-number : s .position .phase ≡ Sending → breaksRules s ≡ false → s .position .place + nextSize s < s .offer .length
+      → (s .position .number + 1) * packetSize (s .offer .size) ≤ s .position .place + nextSize s
   unfolding nextSize
   next-number is ok =
       let l = lawful s ok in
-      let left = s .length - s .place in
-      let packet = packetSize (s .size) in
+      let n = s .offer .length in
+      let place = s .position .place in
+      let packet = packetSize (s .offer .size) in
       let begins = l .sending is in
       let before = l .numbered is in
-      let sum = add-mul (s .number) 1 packet in
+      let sum = add-mul (s .position .number) 1 packet in
       let one = one-mul packet in
-      of-each (λ (n : ℕ). s .place + n < s .length → (s .number + 1) * packet ≤ s .place + n) (ltb left packet) left packet
+      of-each (λ (k : ℕ). place + k < n → (s .position .number + 1) * packet ≤ place + k) (ltb (n - place) packet) (n - place) packet
       (λ e h. absurd (omega arith)) (λ e h. omega arith)
 
-  fd-keeps : (b : List ℕ) → s .phase ≡ Sending → Keeps s (repliedFD s b)
-  unfolding repliedFD judgedFD
-  fd-keeps b is =
-      let r = fieldsState (dataAt b) in
-      of-both (Keeps s) (isReply 0xFD b) _ _
-      (of-both (Keeps s) (wrongFD s r) _ _ (refused-keeps wrongReply)
-      (of-both (Keeps s) (eqb (r .state) 0) _ _ (onward-keeps (s .place + nextSize s) (s .number + 1) (next-number is)) leg-over-keeps))
-      (refused-keeps wrongReply)
+  fd-keeps : (r : ReplyState) → s .position .phase ≡ Sending → Keeps s (judgedFD s r)
+  unfolding judgedFD
+  fd-keeps r is =
+      of-both (Keeps s) (ltb notReceivingFD (r .state)) _ _ (refused-keeps wrongReply)
+      (of-both (Keeps s) (eqb (r .state) granted) _ _
+      (onward-keeps (s .position .place + nextSize s) (s .position .number + 1) (next-number is)) leg-over-keeps)
 
-  fe-keeps : (b : List ℕ) → Keeps s (repliedFE s b)
-  unfolding repliedFE judgedFE
-  fe-keeps b =
-      let r = fieldsState (dataAt b) in
-      of-both (Keeps s) (isReply 0xFE b) _ _
-      (of-both (Keeps s) (wrongFE s r) _ _ (refused-keeps wrongReply)
-      (of-both (Keeps s) (eqb (r .state) 0) _ _
-      (moved-keeps decision.Done Done 0 0 (s .«new_legs»)
-      (λ ok. free-lawful Done (s .«new_legs») (free Done refl) (lawful s ok .legs) ok))
-      leg-over-keeps))
-      (refused-keeps wrongReply)
+  fe-keeps : (r : ReplyState) → Keeps s (judgedFE s r)
+  unfolding judgedFE
+  fe-keeps r =
+      of-both (Keeps s) (ltb refusedFE (r .state) || eqb (r .state) neverSentFE) _ _ (refused-keeps wrongReply)
+      (of-both (Keeps s) (eqb (r .state) granted) _ _ (moved-keeps decision.Done Done (free Done refl)) leg-over-keeps)
 
-pub reply-keeps : (s : Sender) (image b : List ℕ) → Keeps s (replied s image b)
-unfolding replied repliedIn
-reply-keeps s image b =
-    of-each (Keeps s) (eqb (refusalOf s (length image)) isAccepted) _ _
-    (λ e.
-    let size = same-length s (length image) (eqb-true (refusalOf s (length image)) isAccepted e) in
-    of-phase (Keeps s) (s .phase) _ _ _ _ _ _ _ (λ q. fa-keeps s b) (λ q. fb-keeps s b image size) (λ q. fc-keeps s b) (λ q. fd-keeps s b q) (λ q. fe-keeps s b)
-    (λ q. refused-keeps s wrongReply) (λ q. refused-keeps s wrongReply))
-    (λ e. refused-keeps s (refusalOf s (length image)))
+  judged-keeps : (d image : List ℕ) → length image ≡ s .offer .length → Keeps s (judgedIn s d image)
+  unfolding judgedIn
+  judged-keeps d image size =
+      of-phase (Keeps s) (s .position .phase) _ _ _ _ _ _ _ (λ q. fa-keeps (fieldsFA d)) (λ q. fb-keeps (fieldsFB d) image size)
+      (λ q. fc-keeps (fieldsFC d)) (fd-keeps (fieldsState d)) (λ q. fe-keeps (fieldsState d)) (λ q. refused-keeps wrongReply)
+      (λ q. refused-keeps wrongReply)
 
--- ---- silences
+  pub reply-keeps : (image b : List ℕ) → Keeps s (afterReply s image b)
+  unfolding afterReply
+  reply-keeps image b =
+      let refusal = senderRefusal s (length image) in
+      of-each (Keeps s) (eqb refusal accepted) _ _
+      (λ e.
+      of-both (Keeps s) (ownReply s b) _ _ (judged-keeps (dataAt b) image (same-length s (length image) (eqb-true refusal accepted e)))
+      (refused-keeps wrongReply))
+      (λ e. refused-keeps refusal)
 
-unheard-keeps : (s : Sender) → Keeps s (unheard s)
-unfolding unheard
-unheard-keeps s =
-    of-each (Keeps s) (ltb (s .silences) maxSilences) _ _
-    (λ e. record { lawful = again-lawful s (ltb-true (s .silences) maxSilences e); image = record { channel = refl; pid = refl; version = refl; md5 = refl; size = refl; size-of = refl }; unchanged = λ n. absurd (n refl) })
-    (λ e. leg-over-keeps s)
+  -- ---- silences
 
-stays-keeps : (s : Sender) (d : Decision) → Keeps s (decided d s)
-stays-keeps s d = record { lawful = λ ok. ok; image = same s; unchanged = λ n. absurd (n refl) }
+  unheard-keeps : Keeps s (unheard s)
+  unfolding unheard
+  unheard-keeps =
+      of-each (Keeps s) (ltb (s .tries .silences) maxSilences) _ _
+      (λ e. decided-keeps decision.SendAgain (again s) refl (again-lawful (ltb-true (s .tries .silences) maxSilences e)))
+      (λ e. leg-over-keeps)
 
-pub silence-keeps : (s : Sender) (n : ℕ) → Keeps s (silent s n)
-unfolding silent silentIn
-silence-keeps s n =
-    let u = unheard-keeps s in
-    of-both (Keeps s) (eqb (refusalOf s n) isAccepted) _ _
-    (of-phase (Keeps s) (s .phase) _ _ _ _ _ _ _ (λ q. u) (λ q. u) (λ q. u) (λ q. u) (λ q. u) (λ q. stays-keeps s decision.Done) (λ q. stays-keeps s decision.GivenUp))
-    (refused-keeps s (refusalOf s n))
+  stays-keeps : (d : Decision) → Keeps s (decided d s)
+  stays-keeps d = decided-keeps d s refl (λ ok. ok)
+
+  pub silence-keeps : (n : ℕ) → Keeps s (afterSilence s n)
+  unfolding afterSilence silentIn
+  silence-keeps n =
+      let u = unheard-keeps in
+      of-both (Keeps s) (eqb (senderRefusal s n) accepted) _ _
+      (of-phase (Keeps s) (s .position .phase) _ _ _ _ _ _ _ (λ q. u) (λ q. u) (λ q. u) (λ q. u) (λ q. u) (λ q. stays-keeps decision.Done)
+      (λ q. stays-keeps decision.GivenUp))
+      (refused-keeps (senderRefusal s n))

@@ -1,5 +1,6 @@
 -- The laws that belong to no one function, by subject.
-pub mod Lawfuls
+mod Phases
+pub mod RulesKept
 mod Packets
 mod Refusals
 mod Requests

@@ -6,7 +6,7 @@ use Prim.Native.Nat.{ℕ, zero, suc, _+_, _-_, _≤_, _<_}
 use native.Mathlib.Omega.{arith}
 use lib.ListN.{length, take, drop, length-take, length-drop, drop-of-length-le, take-append-drop}
 use lib.Seq.{length-take-le}
-use Rattle.frames.proofs.Orders.{lt-or-le}
+use Rattle.sequences.proofs.Orders.{lt-or-le}
 use Rattle.sender.specs.Granted.{pieces, packets, FullButLast, joined}
 
 pub pieces-none : (most n : ℕ) → pieces most n [] ≡ []
@@ -31,12 +31,14 @@ pieces-whole zero n [] some fits = refl
 pieces-whole zero n (b ∷ s) some fits = absurd (omega arith)
 pieces-whole (suc most) n [] some fits = refl
 pieces-whole (suc most) n (b ∷ s) some fits =
-    ap (λ (t : List ℕ). take n (b ∷ s) ++ t) (pieces-whole most n (drop n (b ∷ s)) some (omega (arith, length-drop n (b ∷ s)))) ∙ take-append-drop n (b ∷ s)
+    ap (λ (t : List ℕ). take n (b ∷ s) ++ t) (pieces-whole most n (drop n (b ∷ s)) some (omega (arith, length-drop n (b ∷ s))))
+    ∙ take-append-drop n (b ∷ s)
 
 -- ---- full but the last
 
 -- one piece more in front
-full-more : (n : ℕ) (p : List ℕ) (ps : List (List ℕ)) → 0 < length p → length p ≤ n → ((q : List ℕ) (qs : List (List ℕ)) → ps ≡ q ∷ qs → length p ≡ n)
+full-more : (n : ℕ) (p : List ℕ) (ps : List (List ℕ)) → 0 < length p → length p ≤ n
+    → ((q : List ℕ) (qs : List (List ℕ)) → ps ≡ q ∷ qs → length p ≡ n)
     → FullButLast n ps → FullButLast n (p ∷ ps)
 full-more n p [] some most full rest = (some, most)
 full-more n p (q ∷ ps) some most full rest = (full q ps refl, rest)

@@ -7,43 +7,47 @@ use native.Mathlib.Nat.{mul-le-mul-left}
 use native.Mathlib.Omega.{arith}
 use lib.ListN.{length, take, drop, length-take}
 use Rattle.crc.proofs.Widths.{crc16-fits, crc32-fits}
-use Rattle.frames.specs.Frame.{Bytes, maxData, frameSize, Frame, encode}
+use Rattle.sequences.specs.Bytes.{Bytes}
+use Rattle.fronts.specs.Frame.{maxData, frameSize, Frame, encode}
 use Rattle.frames.specs.Finished.{finished}
 use Rattle.frames.specs.LiveReading.{noFrame, fed}
-use Rattle.frames.proofs.Bytes.{bytes-take, bytes-drop, bytes-at}
-use Rattle.frames.proofs.Writes.{encode-size, writable-fits}
+use Rattle.sequences.proofs.Bytes.{bytes-take, bytes-drop, bytes-at}
+use Rattle.fronts.proofs.Sizes.{encode-size}
+use Rattle.frames.proofs.Writes.{writable-fits}
 use Rattle.frames.proofs.RoundTrips.{size-written, room-written}
 use Rattle.frames.proofs.FedAlone.{fed-written}
 use Rattle.commands.specs.declared.table.Header.the-variants.{Right}
 use Rattle.commands.specs.Limits.{minPacket, maxPacket}
 use Rattle.commands.specs.RequestFrames.{dataFA, dataFB, dataFC, dataFD, dataFE, requestFrame}
-use Rattle.commands.specs.RoundTrips.{max16, FitsFB, FitsFD, sent, headerIn}
+use Rattle.sequences.specs.Numbers.{max16}
+use Rattle.commands.specs.RoundTrips.{FitsFB, FitsFD, sent, headerIn}
 use Rattle.commands.proofs.RoundTrips.{requests-read-back, request-payload, sent-command, size-fa, size-fb, size-fc, size-fd, size-fe}
 use Rattle.sender.specs.declared.phase.Phase.{Phase}
 use Rattle.sender.specs.declared.phase.Phase.the-variants.{Asking, Telling, Placing, Sending, Ending, Done, GivenUp}
 use Rattle.sender.specs.declared.sender.Sender.{Sender}
 use Rattle.sender.specs.declared.request.Requested.{Requested}
-use Rattle.sender.specs.Phases.{byPhase, isOver}
+use Rattle.sender.specs.Phases.{byPhase, isFinal}
 use Rattle.sender.specs.Senders.{packetSize, nextSize}
-use Rattle.sender.specs.Lawful.{unlawful}
+use Rattle.sender.specs.Rules.{breaksRules}
 use Rattle.sender.specs.Requests.{askingFor, tellingOf, placingAt, nextPacket, sendingOf, requestOf, requested}
 use Rattle.sender.specs.RequestRead.{Typed, FieldsIn, RequestsRead}
-use Rattle.sender.proofs.Lawfuls.{lawful}
+use Rattle.sender.proofs.RulesKept.{lawful}
 use Rattle.sender.proofs.Packets.{packet-some, next-short}
-use Rattle.sender.proofs.Refusals.{accepted}
+use Rattle.sender.proofs.Refusals.{is-accepted}
 use Rattle.sender.proofs.Requests.{request-written}
 
 -- ---- numbers that fit their fields
 
 -- "number × packet ≤ place < 1,048,576 ≤ 65,536 × packet"
-pub number-fits : (s : Sender) → unlawful s ≡ false → s .phase ≡ Sending → s .number < max16
+pub number-fits : (s : Sender) → breaksRules s ≡ false → s .position .phase ≡ Sending → s .position .number < max16
 number-fits s ok is =
     let l = lawful s ok in
-    let packet = packet-some (s .size) (l .least-size) in
-    let least : s .number * minPacket ≤ s .number * packetSize (s .size) = mul-le-mul-left (s .number) packet in
+    let packet = packet-some (s .offer .size) (l .least-size) in
+    let n = s .position .number in
+    let least : n * minPacket ≤ n * packetSize (s .offer .size) = mul-le-mul-left n packet in
     omega (arith, l .numbered is, l .sending is, l .most-image)
 
-module _ (s : Sender) (image : List ℕ) (ok : unlawful s ≡ false) (typed : Typed s) (bytes : Bytes image) where
+module _ (s : Sender) (image : List ℕ) (ok : breaksRules s ≡ false) (typed : Typed (s .offer)) (bytes : Bytes image) where
   fits-fb : FitsFB (tellingOf s image)
   fits-fb =
       let l = lawful s ok in
@@ -55,9 +59,10 @@ module _ (s : Sender) (image : List ℕ) (ok : unlawful s ≡ false) (typed : Ty
         crc = crc32-fits image (λ i. bytes-at image i bytes);
       }
 
-  fits-fd : s .phase ≡ Sending → FitsFD (sendingOf s image)
+  fits-fd : s .position .phase ≡ Sending → FitsFD (sendingOf s image)
   fits-fd is =
-      let packet : Bytes (nextPacket s image) = bytes-take (nextSize s) (drop (s .place) image) (bytes-drop (s .place) image bytes) in
+      let rest = drop (s .position .place) image in
+      let packet : Bytes (nextPacket s image) = bytes-take (nextSize s) rest (bytes-drop (s .position .place) image bytes) in
       record {
         number = number-fits s ok is;
         size = omega (arith, next-short s);
@@ -65,7 +70,7 @@ module _ (s : Sender) (image : List ℕ) (ok : unlawful s ≡ false) (typed : Ty
       }
 
   packet-short : length (nextPacket s image) ≤ maxPacket
-  packet-short = omega (arith, next-short s, length-take (nextSize s) (drop (s .place) image))
+  packet-short = omega (arith, next-short s, length-take (nextSize s) (drop (s .position .place) image))
 
 -- ---- the frame, phase by phase
 
@@ -81,42 +86,49 @@ made : (p : Phase) (s : Sender) (image : List ℕ) (command : ℕ) (d : List ℕ
 made p s image command d small header fields =
     record { small = subst (λ (q : List ℕ). length q ≤ maxData) (sym (request-payload command d)) small; header = header; fields = fields }
 
-module _ (s : Sender) (image : List ℕ) (ok : unlawful s ≡ false) (typed : Typed s) (bytes : Bytes image) where
+module _ (s : Sender) (image : List ℕ) (ok : breaksRules s ≡ false) (typed : Typed (s .offer)) (bytes : Bytes image) where
   -- the request of phase p
-  readable : (p : Phase) → s .phase ≡ p → isOver p ≡ false → Readable p s image (byPhase p
+  readable : (p : Phase) → s .position .phase ≡ p → isFinal p ≡ false → Readable p s image (byPhase p
       (requestFrame 0xFA (dataFA (askingFor s)))
       (requestFrame 0xFB (dataFB (tellingOf s image)))
       (requestFrame 0xFC (dataFC (placingAt s)))
       (requestFrame 0xFD (dataFD (sendingOf s image) (nextPacket s image)))
-      (requestFrame 0xFE (dataFE (s .channel)))
+      (requestFrame 0xFE (dataFE (s .offer .channel)))
       noFrame
       noFrame)
   readable Asking is more =
       let q = askingFor s in
-      made Asking s image 0xFA (dataFA q) (omega (arith, size-fa q)) (requests-read-back .fa-header q) (sent-command 0xFA (dataFA q), requests-read-back .fa q (typed .size))
+      made Asking s image 0xFA (dataFA q) (omega (arith, size-fa q)) (requests-read-back .fa-header q)
+      (sent-command 0xFA (dataFA q), requests-read-back .fa q (typed .size))
   readable Telling is more =
       let q = tellingOf s image in
       let fits = fits-fb s image ok typed bytes in
-      made Telling s image 0xFB (dataFB q) (omega (arith, size-fb q fits)) (requests-read-back .fb-header q fits) (sent-command 0xFB (dataFB q), requests-read-back .fb q fits)
+      made Telling s image 0xFB (dataFB q) (omega (arith, size-fb q fits)) (requests-read-back .fb-header q fits)
+      (sent-command 0xFB (dataFB q), requests-read-back .fb q fits)
   readable Placing is more =
       let q = placingAt s in
       let place = lawful s ok .placing is in
       let most = lawful s ok .most-image in
-      made Placing s image 0xFC (dataFC q) (omega (arith, size-fc q)) (requests-read-back .fc-header q) (sent-command 0xFC (dataFC q), requests-read-back .fc q (omega arith))
+      made Placing s image 0xFC (dataFC q) (omega (arith, size-fc q)) (requests-read-back .fc-header q)
+      (sent-command 0xFC (dataFC q), requests-read-back .fc q (omega arith))
   readable Sending is more =
       let q = sendingOf s image in
       let p = nextPacket s image in
       let short = packet-short s image ok typed bytes in
-      made Sending s image 0xFD (dataFD q p) (omega (arith, size-fd q p)) (requests-read-back .fd-header q p short)
-      (sent-command 0xFD (dataFD q p), (requests-read-back .fd q p (fits-fd s image ok typed bytes is), requests-read-back .packet q p short))
+      made Sending s image 0xFD (dataFD q p) (omega (arith, size-fd q p)) (requests-read-back .fd-header q p short) (
+        sent-command 0xFD (dataFD q p),
+        (requests-read-back .fd q p (fits-fd s image ok typed bytes is), requests-read-back .packet q p short),
+      )
   readable Ending is more =
-      made Ending s image 0xFE (dataFE (s .channel)) (omega (arith, size-fe (s .channel))) (requests-read-back .fe-header (s .channel)) (sent-command 0xFE (dataFE (s .channel)), requests-read-back .fe (s .channel))
+      let q = s .offer .channel in
+      made Ending s image 0xFE (dataFE q) (omega (arith, size-fe q)) (requests-read-back .fe-header q)
+      (sent-command 0xFE (dataFE q), requests-read-back .fe q)
   readable Done is more = let z : _≡_ {A = ℕ} 0 1 = cc in absurd (omega arith)
   readable GivenUp is more = let z : _≡_ {A = ℕ} 0 1 = cc in absurd (omega arith)
 
-  request-readable : isOver (s .phase) ≡ false → Readable (s .phase) s image (requestOf s image)
+  request-readable : isFinal (s .position .phase) ≡ false → Readable (s .position .phase) s image (requestOf s image)
   unfolding requestOf
-  request-readable more = readable (s .phase) refl more
+  request-readable more = readable (s .position .phase) refl more
 
 pub requests-read : RequestsRead
 requests-read s image room ok typed bytes size wide more =
@@ -124,8 +136,9 @@ requests-read s image room ok typed bytes size wide more =
     let good = request-readable s image ok typed bytes more in
     let small = good .small in
     let writable-here = writable-fits f room small (omega arith) in
-    let w = request-written s image room (accepted s (length image) ok size) wide more in
-    let count : requested s image room .length ≡ frameSize (length (f .payload)) = ap (λ (r : Requested). r .length) (w .0) ∙ size-written f room writable-here in
+    let w = request-written s image room (is-accepted s (length image) ok size) wide more in
+    let count : requested s image room .length ≡ frameSize (length (f .payload)) =
+    ap (λ (r : Requested). r .length) (w .0) ∙ size-written f room writable-here in
     record {
       stands = w .1 ∙ room-written f room writable-here ∙ ap (λ (n : ℕ). encode f ++ drop n room) (sym count);
       counts = count ∙ sym (encode-size f);

@@ -5,33 +5,34 @@ use mathlib.Core.List.{List}
 use Prim.Native.Nat.{ℕ, _≤_, _<_}
 use borrow.Author.Tests.{ne-eqb, lt-ltb, le-ltb}
 use lib.ListN.{length}
-use Rattle.frames.specs.Frame.{maxFrame}
+use Rattle.fronts.specs.Frame.{maxFrame}
 use Rattle.frames.specs.Buffer.{writtenSize, writtenRoom}
 use Rattle.sender.specs.declared.sender.Sender.{Sender}
-use Rattle.sender.specs.Outcomes.{isAccepted, shortRoom}
-use Rattle.sender.specs.Phases.{isOver}
-use Rattle.sender.specs.Requests.{requestOf, refusalOf, requestOutcome, requested, roomRequested}
+use Rattle.commands.specs.Outcomes.{accepted, shortRoom}
+use Rattle.sender.specs.Phases.{isFinal}
+use Rattle.sender.specs.Requests.{requestOf, senderRefusal, requestOutcome, requested, roomRequested}
 
 module _ (s : Sender) (image room : List ℕ) where
   -- nothing is written
   abbrev Nothing : ℕ → Type 0
   Nothing outcome = (requested s image room ≡ record { outcome = outcome; length = 0 }) × (roomRequested s image room ≡ room)
 
-  pub request-refused : (k : ℕ) → refusalOf s (length image) ≡ k → (k ≡ isAccepted → ⊥) → Nothing k
+  pub request-refused : (k : ℕ) → senderRefusal s (length image) ≡ k → (k ≡ accepted → ⊥) → Nothing k
   unfolding requested roomRequested requestOutcome
-  request-refused k e n = let f = ne-eqb k isAccepted n in (rw (e, f) (rw f refl), rw (e, f) (rw f refl))
+  request-refused k e n = let f = ne-eqb k accepted n in (rw (e, f) (rw f refl), rw (e, f) (rw f refl))
 
-  module _ (ok : refusalOf s (length image) ≡ isAccepted) where
+  module _ (ok : senderRefusal s (length image) ≡ accepted) where
     pub request-short : length room < maxFrame → Nothing shortRoom
     unfolding requested roomRequested requestOutcome
     request-short h = let f = lt-ltb (length room) maxFrame h in (simp (ok, f), simp (ok, f))
 
     module _ (wide : maxFrame ≤ length room) where
-      pub request-over : isOver (s .phase) ≡ true → Nothing isAccepted
+      pub request-over : isFinal (s .position .phase) ≡ true → Nothing accepted
       unfolding requested roomRequested requestOutcome
       request-over o = let f = le-ltb (length room) maxFrame wide in (simp (ok, f, o), simp (ok, f, o))
 
-      pub request-written : isOver (s .phase) ≡ false
-          → (requested s image room ≡ record { outcome = isAccepted; length = writtenSize (requestOf s image) room }) × (roomRequested s image room ≡ writtenRoom (requestOf s image) room)
+      pub request-written : isFinal (s .position .phase) ≡ false
+          → (requested s image room ≡ record { outcome = accepted; length = writtenSize (requestOf s image) room })
+          × (roomRequested s image room ≡ writtenRoom (requestOf s image) room)
       unfolding requested roomRequested requestOutcome
       request-written o = let f = le-ltb (length room) maxFrame wide in (simp (ok, f, o), simp (ok, f, o))

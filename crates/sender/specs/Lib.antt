@@ -1,8 +1,7 @@
 -- The definitions that the contracts of `sender` cite, in the order of docs/SENDER.md.
-pub mod Outcomes
 pub mod Phases
 pub mod Senders
-pub mod Lawful
+pub mod Rules
 pub mod Opening
 pub mod Decisions
 pub mod Requests

@@ -1,5 +1,6 @@
 -- docs/SENDER.md, "The record": "asking, telling, placing, sending, ending, done, given up". Assumes nothing.
 use mathlib.Core.Bool.{Bool, true, false}
+use Prim.Native.Nat.{ℕ}
 use Rattle.sender.specs.declared.phase.Phase.{Phase}
 use Rattle.sender.specs.declared.phase.Phase.the-variants.{Asking, Telling, Placing, Sending, Ending, Done, GivenUp}
 
@@ -14,11 +15,15 @@ byPhase Done asking telling placing sending ending done givenUp = done
 byPhase GivenUp asking telling placing sending ending done givenUp = givenUp
 
 -- "done and given up stay"
-abbrev pub isOver : Phase → Bool
-isOver Asking = false
-isOver Telling = false
-isOver Placing = false
-isOver Sending = false
-isOver Ending = false
-isOver Done = true
-isOver GivenUp = true
+abbrev pub isFinal : Phase → Bool
+isFinal Asking = false
+isFinal Telling = false
+isFinal Placing = false
+isFinal Sending = false
+isFinal Ending = false
+isFinal Done = true
+isFinal GivenUp = true
+
+-- the command of the request; "done, given up: none"
+abbrev pub commandOf : Phase → ℕ
+commandOf p = byPhase p 0xFA 0xFB 0xFC 0xFD 0xFE 0 0

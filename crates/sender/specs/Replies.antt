@@ -1,5 +1,5 @@
 -- docs/SENDER.md, "Replies": "In each phase only the reply to its own request is taken; else 21." Assumes nothing.
-use mathlib.Core.Bool.{Bool, cond, not, _||_}
+use mathlib.Core.Bool.{Bool, cond, not, _&&_, _||_}
 use mathlib.Core.List.{List}
 use Prim.Native.Nat.{ℕ, _+_, _≤_}
 use lib.Dec.{ltb, eqb}
@@ -7,6 +7,8 @@ use lib.ListN.{length, take}
 use Rattle.crc.specs.Crc.{checksum, crc32}
 use Rattle.frames.specs.Buffer.{dataAt}
 use Rattle.commands.specs.Limits.{maxPacket, maxArea}
+use Rattle.commands.specs.States.{granted, deniedFA, badLengthFB, notReceivingFD, neverSentFE, refusedFE}
+use Rattle.commands.specs.Requests.{channelOf}
 use Rattle.commands.specs.declared.reply_fields.ReplyFA.{ReplyFA}
 use Rattle.commands.specs.declared.reply_fields.ReplyFB.{ReplyFB}
 use Rattle.commands.specs.declared.reply_fields.ReplyFC.{ReplyFC}
@@ -15,29 +17,28 @@ use Rattle.commands.specs.ReplyFields.{isReply, fieldsFA, fieldsFB, fieldsFC, f
 use Rattle.sender.specs.declared.phase.Phase.the-variants.{Telling, Placing, Sending, Ending}
 use Rattle.sender.specs.declared.decision.Decided.{Decided}
 use Rattle.sender.specs.declared.sender.Sender.{Sender}
-use Rattle.sender.specs.Outcomes.{isAccepted, wrongReply}
-use Rattle.sender.specs.Phases.{byPhase}
-use Rattle.sender.specs.Senders.{nextSize, moved}
-use Rattle.sender.specs.Decisions.{refused, goOn, done, givenUp, legOver}
-use Rattle.sender.specs.Requests.{refusalOf}
+use Rattle.commands.specs.Outcomes.{accepted, wrongReply}
+use Rattle.sender.specs.Phases.{byPhase, commandOf}
+use Rattle.sender.specs.Senders.{nextSize, movedTo}
+use Rattle.sender.specs.Decisions.{nothingDecided, goOn, done, givenUp, legOver}
+use Rattle.sender.specs.Requests.{senderRefusal}
+
+-- the reply to its own request: one whole frame of that command, version byte and L, on its channel
+unfoldable pub ownReply : Sender → List ℕ → Bool
+ownReply s b = isReply (commandOf (s .position .phase)) b && eqb (channelOf (dataAt b)) (s .offer .channel)
 
 -- a field that 01 never gives there
-abbrev pub otherChannel : Sender → ℕ → Bool
-otherChannel s channel = not (eqb channel (s .channel))
+abbrev pub unless : Sender → Bool → Decided → Decided
+unless s wrong d = cond wrong (nothingDecided s wrongReply) d
 
--- ---- asking: "21 unless 00 FA, L 7, channel, flag 0 or 1, Len2 512"
+-- ---- asking: "21 unless 00 FA, L 7, channel, flag 0 or 1, Len2 512"; "flag 0: go on, telling. Flag 1: given up"
 
-abbrev pub wrongFA : Sender → ReplyFA → Bool
-wrongFA s r = otherChannel s (r .channel) || (ltb 1 (r .flag) || not (eqb (r .len2) maxPacket))
-
--- "flag 0: go on, telling. Flag 1: given up"
 unfoldable pub judgedFA : Sender → ReplyFA → Decided
-judgedFA s r = cond (wrongFA s r) (refused s wrongReply) (cond (eqb (r .flag) 0) (goOn (moved s Telling 0 0)) (givenUp s))
+judgedFA s r =
+    unless s (ltb deniedFA (r .flag) || not (eqb (r .len2) maxPacket))
+    (cond (eqb (r .flag) granted) (goOn (movedTo s Telling 0 0)) (givenUp s))
 
 -- ---- telling: "21 unless 10 FB, L 26, channel, state 0 to 3"
-
-abbrev pub wrongFB : Sender → ReplyFB → Bool
-wrongFB s r = otherChannel s (r .channel) || ltb 3 (r .state)
 
 -- "place is the reply's stored if that is at most length and the reply's CRC-32 is that of the image's first stored bytes, else 0"
 unfoldable pub resumeAt : ReplyFB → List ℕ → ℕ
@@ -45,73 +46,55 @@ resumeAt r image = cond (ltb (length image) (r .stored)) 0 (cond (eqb (checksum 
 
 -- "state 0: go on, placing .. State 1, 2, 3: given up"
 unfoldable pub judgedFB : Sender → ReplyFB → List ℕ → Decided
-judgedFB s r image = cond (wrongFB s r) (refused s wrongReply) (cond (eqb (r .state) 0) (goOn (moved s Placing (resumeAt r image) 0)) (givenUp s))
+judgedFB s r image =
+    unless s (ltb badLengthFB (r .state)) (cond (eqb (r .state) granted) (goOn (movedTo s Placing (resumeAt r image) 0)) (givenUp s))
 
 -- ---- placing: "21 unless 00 FC, L 5, channel, offset the asked one or 0"
 
-abbrev pub wrongFC : Sender → ReplyFC → Bool
-wrongFC s r = otherChannel s (r .channel) || not (eqb (r .offset) (s .place) || eqb (r .offset) 0)
-
 -- "sending if place is .. below length, else ending"; after ending begins place and number are 0
 unfoldable pub onward : Sender → ℕ → ℕ → Sender
-onward s place number = cond (ltb place (s .length)) (moved s Sending place number) (moved s Ending 0 0)
+onward s place number = cond (ltb place (s .offer .length)) (movedTo s Sending place number) (movedTo s Ending 0 0)
 
 -- "go on; place the offset, number 0"
 unfoldable pub judgedFC : Sender → ReplyFC → Decided
-judgedFC s r = cond (wrongFC s r) (refused s wrongReply) (goOn (onward s (r .offset) 0))
+judgedFC s r = unless s (not (eqb (r .offset) (s .position .place) || eqb (r .offset) 0)) (goOn (onward s (r .offset) 0))
 
--- ---- sending: "21 unless 00 FD, L 2, channel, state 0 to 4"
+-- ---- sending: "21 unless 00 FD, L 2, channel, state 0 to 4"; "state 0: go on; place + n, number + 1 .. State 1 to 4: leg over"
 
-abbrev pub wrongFD : Sender → ReplyState → Bool
-wrongFD s r = otherChannel s (r .channel) || ltb 4 (r .state)
-
--- "state 0: go on; place + n, number + 1 .. State 1 to 4: leg over"
 unfoldable pub judgedFD : Sender → ReplyState → Decided
 judgedFD s r =
-    cond (wrongFD s r) (refused s wrongReply)
-    (cond (eqb (r .state) 0) (goOn (onward s (s .place + nextSize s) (s .number + 1))) (legOver s))
+    let after = onward s (s .position .place + nextSize s) (s .position .number + 1) in
+    unless s (ltb notReceivingFD (r .state)) (cond (eqb (r .state) granted) (goOn after) (legOver s))
 
--- ---- ending: "21 unless 00 FE, L 2, channel, state 0, 1 or 3"
+-- ---- ending: "21 unless 00 FE, L 2, channel, state 0, 1 or 3"; "state 0: done. State 1 or 3: leg over"
 
-abbrev pub wrongFE : Sender → ReplyState → Bool
-wrongFE s r = otherChannel s (r .channel) || (ltb 3 (r .state) || eqb (r .state) 2)
-
--- "state 0: done. State 1 or 3: leg over"
 unfoldable pub judgedFE : Sender → ReplyState → Decided
-judgedFE s r = cond (wrongFE s r) (refused s wrongReply) (cond (eqb (r .state) 0) (done s) (legOver s))
+judgedFE s r =
+    unless s (ltb refusedFE (r .state) || eqb (r .state) neverSentFE) (cond (eqb (r .state) granted) (done s) (legOver s))
 
 -- ---- the call
 
--- the reply to its own request: one whole frame of that command, version byte and L
-abbrev pub onlyReply : Sender → ℕ → List ℕ → Decided → Decided
-onlyReply s command b judged = cond (isReply command b) judged (refused s wrongReply)
-
-unfoldable pub repliedFA : Sender → List ℕ → Decided
-repliedFA s b = onlyReply s 0xFA b (judgedFA s (fieldsFA (dataAt b)))
-
-unfoldable pub repliedFB : Sender → List ℕ → List ℕ → Decided
-repliedFB s b image = onlyReply s 0xFB b (judgedFB s (fieldsFB (dataAt b)) image)
-
-unfoldable pub repliedFC : Sender → List ℕ → Decided
-repliedFC s b = onlyReply s 0xFC b (judgedFC s (fieldsFC (dataAt b)))
-
-unfoldable pub repliedFD : Sender → List ℕ → Decided
-repliedFD s b = onlyReply s 0xFD b (judgedFD s (fieldsState (dataAt b)))
-
-unfoldable pub repliedFE : Sender → List ℕ → Decided
-repliedFE s b = onlyReply s 0xFE b (judgedFE s (fieldsState (dataAt b)))
-
--- by the phase; "done and given up stay, replies then getting 21"
-unfoldable pub repliedIn : Sender → List ℕ → List ℕ → Decided
-repliedIn s image b =
-    byPhase (s .phase) (repliedFA s b) (repliedFB s b image) (repliedFC s b) (repliedFD s b) (repliedFE s b) (refused s wrongReply) (refused s wrongReply)
+-- by the phase, d being the reply's data; "done and given up stay, replies then getting 21"
+unfoldable pub judgedIn : Sender → List ℕ → List ℕ → Decided
+judgedIn s d image =
+    byPhase (s .position .phase)
+    (judgedFA s (fieldsFA d))
+    (judgedFB s (fieldsFB d) image)
+    (judgedFC s (fieldsFC d))
+    (judgedFD s (fieldsState d))
+    (judgedFE s (fieldsState d))
+    (nothingDecided s wrongReply)
+    (nothingDecided s wrongReply)
 
 -- "9, 20, 21"
-unfoldable pub replied : Sender → List ℕ → List ℕ → Decided
-replied s image b = cond (eqb (refusalOf s (length image)) isAccepted) (repliedIn s image b) (refused s (refusalOf s (length image)))
+unfoldable pub afterReply : Sender → List ℕ → List ℕ → Decided
+afterReply s image b =
+    let refusal = senderRefusal s (length image) in
+    cond (eqb refusal accepted) (cond (ownReply s b) (judgedIn s (dataAt b) image) (nothingDecided s wrongReply))
+    (nothingDecided s refusal)
 
--- What a lawful record in phase sending has. Internal: the functions that go on to the next packet ask for it.
+-- What a record that keeps its rules has in phase sending. Internal: the functions that go on to the next packet ask for it.
 pub record AtPacket (s : Sender) : Type 0 where
-  pub place-fits : s .place ≤ s .length
-  pub length-fits : s .length ≤ maxArea
-  pub number-fits : s .number ≤ maxArea
+  pub place-fits : s .position .place ≤ s .offer .length
+  pub length-fits : s .offer .length ≤ maxArea
+  pub number-fits : s .position .number ≤ maxArea

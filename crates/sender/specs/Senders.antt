@@ -2,10 +2,11 @@
 use mathlib.Core.Bool.{cond}
 use Prim.Native.Nat.{ℕ, _+_, _-_}
 use lib.Dec.{ltb}
-use Rattle.frames.specs.Finished.{zeros}
+use Rattle.sequences.specs.Padding.{zeros}
 use Rattle.commands.specs.Limits.{maxPacket}
 use Rattle.sender.specs.declared.phase.Phase.{Phase}
 use Rattle.sender.specs.declared.phase.Phase.the-variants.{Asking}
+use Rattle.sender.specs.declared.sender.Offer.{Offer}
 use Rattle.sender.specs.declared.sender.Sender.{Sender}
 
 -- "silences told since the request last changed, 0 to 3"
@@ -21,62 +22,42 @@ abbrev pub packetSize : ℕ → ℕ
 packetSize size = cond (ltb size maxPacket) size maxPacket
 
 unfoldable pub nextSize : Sender → ℕ
-nextSize s = cond (ltb (s .length - s .place) (packetSize (s .size))) (s .length - s .place) (packetSize (s .size))
+nextSize s =
+    let left = s .offer .length - s .position .place in
+    let packet = packetSize (s .offer .size) in
+    cond (ltb left packet) left packet
+
+-- a leg begins: "phase asking", and "Place and number are 0 but in placing and sending"
+abbrev pub begun : Offer → ℕ → Sender
+begun o legs =
+    record {
+      offer = o;
+      position = record { phase = Asking; place = 0; number = 0 };
+      tries = record { silences = 0; «new_legs» = legs };
+    }
+
+-- the column "fresh"
+abbrev pub freshSender : Offer → Sender
+freshSender o = begun o 0
 
 -- "The all-zero record (phase asking)"
 abbrev pub noSender : Sender
-noSender =
+noSender = freshSender (record { channel = 0; pid = zeros 8; version = zeros 3; md5 = zeros 16; size = 0; length = 0 })
+
+-- another request: "A decision for another request .. leaves silences 0."
+abbrev pub movedTo : Sender → Phase → ℕ → ℕ → Sender
+movedTo s phase place number =
     record {
-      channel = 0;
-      pid = zeros 8;
-      version = zeros 3;
-      md5 = zeros 16;
-      size = 0;
-      length = 0;
-      phase = Asking;
-      place = 0;
-      number = 0;
-      silences = 0;
-      «new_legs» = 0;
+      offer = s .offer;
+      position = record { phase = phase; place = place; number = number };
+      tries = record { silences = 0; «new_legs» = s .tries .«new_legs» };
     }
-
--- another request: "Every decision but send again leaves silences 0."
-abbrev pub begun : Sender → Phase → ℕ → ℕ → ℕ → Sender
-begun s phase place number legs =
-    record {
-      channel = s .channel;
-      pid = s .pid;
-      version = s .version;
-      md5 = s .md5;
-      size = s .size;
-      length = s .length;
-      phase = phase;
-      place = place;
-      number = number;
-      silences = 0;
-      «new_legs» = legs;
-    }
-
-abbrev pub moved : Sender → Phase → ℕ → ℕ → Sender
-moved s phase place number = begun s phase place number (s .«new_legs»)
-
--- "phase asking, new legs + 1"; "Every one but go on and send again leaves place and number 0."
-abbrev pub anew : Sender → Sender
-anew s = begun s Asking 0 0 (s .«new_legs» + 1)
 
 -- "silences + 1, nothing else changed"
 abbrev pub again : Sender → Sender
 again s =
     record {
-      channel = s .channel;
-      pid = s .pid;
-      version = s .version;
-      md5 = s .md5;
-      size = s .size;
-      length = s .length;
-      phase = s .phase;
-      place = s .place;
-      number = s .number;
-      silences = s .silences + 1;
-      «new_legs» = s .«new_legs»;
+      offer = s .offer;
+      position = s .position;
+      tries = record { silences = s .tries .silences + 1; «new_legs» = s .tries .«new_legs» };
     }

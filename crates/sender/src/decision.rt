@@ -1,7 +1,8 @@
 // What the sender's caller is to do after a reply or a silence.
 use crate::sender::Sender;
+use commands::outcome;
 ghost use mathlib.Core.Path.{_≡_};
-ghost use Rattle.sender.specs.Decisions.{decided, refused};
+ghost use Rattle.sender.specs.Decisions.{decided, nothingDecided};
 
 pub enum Decision {
     // The call was refused: go on waiting.
@@ -24,8 +25,9 @@ pub struct Decided {
 }
 
 impl Decided {
-    pub(crate) fn refused(sender: Sender, outcome: u8) -> Decided
-        ensures { λ r. ⌜ r ≡ refused sender outcome ⌝ }
+    // Refused with this outcome.
+    pub(crate) fn nothing(sender: Sender, outcome: u8) -> Decided
+        ensures { λ r. ⌜ r ≡ nothingDecided sender outcome ⌝ }
     {
         Decided {
             outcome,
@@ -38,7 +40,7 @@ impl Decided {
         ensures { λ r. ⌜ r ≡ decided decision next ⌝ }
     {
         Decided {
-            outcome: crate::outcome::ACCEPTED,
+            outcome: outcome::ACCEPTED,
             decision,
             next,
         }

@@ -1,11 +1,11 @@
 // Opening the record.
-use crate::lawful::bad_image;
-use crate::outcome;
-use crate::phase::Phase;
+use crate::rules::bad_offer;
+use crate::sender::Offer;
 use crate::sender::Sender;
+use commands::outcome;
 ghost use mathlib.Core.Path.{_≡_};
 ghost use lib.ListN.{length};
-ghost use Rattle.sender.specs.Opening.{opened};
+ghost use Rattle.sender.specs.Opening.{offerOf, openedSender};
 
 // What opening gives. A refused opening hands back the all-zero record.
 pub struct Opened {
@@ -22,30 +22,25 @@ impl Sender {
         size: u16,
         image: &[u8],
     ) -> Opened
-        ensures { λ r. ⌜ r ≡ opened channel pid version md5 size (length (now (image .entry))) ⌝ }
+        ensures { λ r. ⌜ r ≡ openedSender (offerOf channel pid version md5 size (length (now (image .entry)))) ⌝ }
     {
-        if bad_image(size, image.len()) {
-            return Opened {
-                outcome: outcome::WRONG_IMAGE,
-                sender: Sender::none(),
-            };
-        }
-        let sender = Sender {
+        let offer = Offer {
             channel,
             pid,
             version,
             md5,
             size,
             length: image.len(),
-            phase: Phase::Asking,
-            place: 0,
-            number: 0,
-            silences: 0,
-            new_legs: 0,
         };
+        if bad_offer(offer) {
+            return Opened {
+                outcome: outcome::WRONG_IMAGE,
+                sender: Sender::none(),
+            };
+        }
         Opened {
             outcome: outcome::ACCEPTED,
-            sender,
+            sender: Sender::begun(offer, 0),
         }
     }
 }

@@ -1,20 +1,20 @@
 // The next request: it is read off the record and the image.
-use crate::outcome;
 use crate::phase::Phase;
-use crate::phase::is_over;
+use crate::phase::is_final;
 use crate::sender::Sender;
+use commands::outcome;
 use commands::request::RequestFA;
 use commands::request::RequestFB;
 use commands::request::RequestFC;
 use commands::request::RequestFD;
 use commands::request_frame;
-use frames::MAX_FRAME;
 use frames::finished::FinishedFrame;
+use fronts::MAX_FRAME;
+use sequences::part::part;
 ghost use mathlib.Core.Path.{_≡_};
-ghost use lib.ListN.{length, take, drop};
 ghost use Rattle.frames.specs.Finished.{finished};
-ghost use Rattle.commands.specs.RequestFrames.{dataFB, dataFD, requestFrame};
-ghost use Rattle.sender.specs.Requests.{tellingOf, sendingOf, nextPacket, requestOf, refusalOf, requested, roomRequested};
+ghost use Rattle.commands.specs.RequestFrames.{dataFB, requestFrame};
+ghost use Rattle.sender.specs.Requests.{tellingOf, packetFrame, requestOf, senderRefusal, RequestGiven};
 
 // What the call gives: the request's length, 0 where there is none.
 pub struct Requested {
@@ -25,7 +25,7 @@ pub struct Requested {
 impl Sender {
     // Writes the request to the front of room; room past it stays.
     pub fn request(self, image: &[u8], room: &mut [u8]) -> Requested
-        ensures { λ r. ⌜ (r ≡ requested self (now (image .entry)) (now (room .entry))) × (now (room .exit) ≡ roomRequested self (now (image .entry)) (now (room .entry))) ⌝ }
+        ensures { λ r. ⌜ RequestGiven self (now (image .entry)) (now (room .entry)) r (now (room .exit)) ⌝ }
     {
         let refusal = self.refusal(image.len());
         if refusal != outcome::ACCEPTED {
@@ -34,8 +34,9 @@ impl Sender {
         if room.len() < MAX_FRAME {
             return without_request(outcome::SHORT_ROOM);
         }
-        let phase = self.phase;
-        if is_over(phase) {
+        let position = self.position;
+        let phase = position.phase;
+        if is_final(phase) {
             return without_request(outcome::ACCEPTED);
         }
         let frame = self.frame(image);
@@ -47,12 +48,12 @@ impl Sender {
 
     // What every call checks first, in this order; ACCEPTED where nothing is wrong.
     pub(crate) fn refusal(self, n: usize) -> u8
-        ensures { λ r. ⌜ r ≡ refusalOf self n ⌝ }
+        ensures { λ r. ⌜ r ≡ senderRefusal self n ⌝ }
     {
-        if self.unlawful() {
-            return outcome::UNLAWFUL;
+        if self.breaks_rules() {
+            return outcome::RULES_BROKEN;
         }
-        if n == self.length {
+        if n == self.offer.length {
             return outcome::ACCEPTED;
         }
         outcome::WRONG_IMAGE
@@ -62,48 +63,49 @@ impl Sender {
     fn frame(self, image: &[u8]) -> FinishedFrame
         ensures { λ r. ⌜ r ≡ finished (requestOf self (now (image .entry))) ⌝ }
     {
-        let phase = self.phase;
+        let position = self.position;
+        let phase = position.phase;
         match phase {
             Phase::Asking => request_frame::fa(RequestFA {
-                channel: self.channel,
-                len1: self.size as usize,
+                channel: self.offer.channel,
+                len1: self.offer.size as usize,
             }),
             Phase::Telling => self.telling(image),
             Phase::Placing => request_frame::fc(RequestFC {
-                channel: self.channel,
-                offset: self.place,
+                channel: self.offer.channel,
+                offset: self.position.place,
             }),
             Phase::Sending => self.sending(image),
-            Phase::Ending => request_frame::fe(self.channel),
-            Phase::Done => FinishedFrame::empty(0, 0),
-            Phase::GivenUp => FinishedFrame::empty(0, 0),
+            Phase::Ending => request_frame::fe(self.offer.channel),
+            _ => FinishedFrame::empty(0, 0),
         }
     }
 
     fn telling(self, image: &[u8]) -> FinishedFrame
         ensures { λ r. ⌜ r ≡ finished (requestFrame 0xFB (dataFB (tellingOf self (now (image .entry))))) ⌝ }
     {
-        let pid = self.pid;
-        let version = self.version;
-        let md5 = self.md5;
+        let offer = self.offer;
+        let pid = offer.pid;
+        let version = offer.version;
+        let md5 = offer.md5;
         request_frame::fb(RequestFB {
-            channel: self.channel,
+            channel: offer.channel,
             pid,
             version,
             md5,
-            length: self.length,
+            length: offer.length,
             crc: crc32::checksum(image),
         })
     }
 
     fn sending(self, image: &[u8]) -> FinishedFrame
-        ensures { λ r. ⌜ r ≡ finished (requestFrame 0xFD (dataFD (sendingOf self (now (image .entry))) (nextPacket self (now (image .entry))))) ⌝ }
+        ensures { λ r. ⌜ r ≡ finished (packetFrame self (now (image .entry))) ⌝ }
     {
         let size = self.next_size();
-        let packet = part(image, self.place, size);
+        let packet = part(image, self.position.place, size);
         let fields = RequestFD {
-            channel: self.channel,
-            number: self.number,
+            channel: self.offer.channel,
+            number: self.position.number,
             size,
             crc: crc16::modbus(packet) as usize,
         };
@@ -115,18 +117,4 @@ fn without_request(outcome: u8) -> Requested
     ensures { λ r. ⌜ r ≡ record { outcome = outcome; length = 0 } ⌝ }
 {
     Requested { outcome, length: 0 }
-}
-
-// At most n bytes from `from` on.
-fn part(s: &[u8], from: usize, n: usize) -> &[u8]
-    ensures { λ r. ⌜ now r ≡ take n (drop from (now (s .entry))) ⌝ }
-{
-    if s.len() < from {
-        return &s[..0];
-    }
-    let rest = &s[from..];
-    if rest.len() < n {
-        return rest;
-    }
-    &rest[..n]
 }

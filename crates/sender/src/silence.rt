@@ -1,39 +1,30 @@
 // No reply came.
 use crate::decision::Decided;
 use crate::decision::Decision;
-use crate::outcome;
 use crate::phase::Phase;
 use crate::sender::MAX_LEGS;
 use crate::sender::MAX_SILENCES;
 use crate::sender::Sender;
+use commands::outcome;
 ghost use mathlib.Core.Path.{_≡_};
 ghost use lib.ListN.{length};
 ghost use Rattle.sender.specs.Decisions.{givenUp, legOver};
-ghost use Rattle.sender.specs.Silences.{unheard, silentIn, silent};
+ghost use Rattle.sender.specs.Silences.{unheard, afterSilence};
 
 impl Sender {
     pub fn silence(self, image: &[u8]) -> Decided
-        ensures { λ r. ⌜ r ≡ silent self (length (now (image .entry))) ⌝ }
+        ensures { λ r. ⌜ r ≡ afterSilence self (length (now (image .entry))) ⌝ }
     {
         let refusal = self.refusal(image.len());
-        if refusal == outcome::ACCEPTED {
-            return self.silence_in_phase();
+        if refusal != outcome::ACCEPTED {
+            return Decided::nothing(self, refusal);
         }
-        Decided::refused(self, refusal)
-    }
-
-    fn silence_in_phase(self) -> Decided
-        ensures { λ r. ⌜ r ≡ silentIn self ⌝ }
-    {
-        let phase = self.phase;
+        let position = self.position;
+        let phase = position.phase;
         match phase {
-            Phase::Asking => self.unheard(),
-            Phase::Telling => self.unheard(),
-            Phase::Placing => self.unheard(),
-            Phase::Sending => self.unheard(),
-            Phase::Ending => self.unheard(),
             Phase::Done => Decided::to(Decision::Done, self),
             Phase::GivenUp => Decided::to(Decision::GivenUp, self),
+            _ => self.unheard(),
         }
     }
 
@@ -41,7 +32,7 @@ impl Sender {
     pub(crate) fn unheard(self) -> Decided
         ensures { λ r. ⌜ r ≡ unheard self ⌝ }
     {
-        if self.silences < MAX_SILENCES {
+        if self.tries.silences < MAX_SILENCES {
             return Decided::to(Decision::SendAgain, self.again());
         }
         self.leg_over()
@@ -51,8 +42,10 @@ impl Sender {
     pub(crate) fn leg_over(self) -> Decided
         ensures { λ r. ⌜ r ≡ legOver self ⌝ }
     {
-        if self.new_legs < MAX_LEGS {
-            return Decided::to(Decision::NewLeg, self.anew());
+        if self.tries.new_legs < MAX_LEGS {
+            let offer = self.offer;
+            let next = Sender::begun(offer, self.tries.new_legs + 1);
+            return Decided::to(Decision::NewLeg, next);
         }
         self.given_up()
     }
@@ -60,6 +53,6 @@ impl Sender {
     pub(crate) fn given_up(self) -> Decided
         ensures { λ r. ⌜ r ≡ givenUp self ⌝ }
     {
-        Decided::to(Decision::GivenUp, self.moved(Phase::GivenUp, 0, 0))
+        Decided::to(Decision::GivenUp, self.moved_to(Phase::GivenUp, 0, 0))
     }
 }

@@ -9,37 +9,37 @@ use borrow.Author.Tests.{eq-eqb}
 use lib.Dec.{ltb, eqb}
 use lib.ListN.{length, getD}
 use Rattle.frames.specs.declared.finished.FinishedFrame.{FinishedFrame}
-use Rattle.frames.proofs.Choices.{of-both, of-each}
+use Rattle.sequences.proofs.Conditionals.{of-both, of-each}
 use Rattle.commands.specs.declared.table.Header.{Header}
 use Rattle.commands.specs.declared.table.Header.the-variants.{Unlisted, Wrong, Right}
 use Rattle.commands.specs.Requests.{channelOf, requestFA, requestFB, requestFC, requestFD, packetOf}
 use Rattle.transfer.specs.declared.board.Board.{Board}
-use Rattle.transfer.specs.declared.check.Verdict.the-variants.{Unfinished, Right as RightCrc, Wrong as WrongCrc}
-use Rattle.transfer.specs.declared.check.Check.{Check}
+use Rattle.image.specs.declared.check.Verdict.the-variants.{Unfinished}
+use Rattle.image.specs.declared.check.Check.{Check}
 use Rattle.transfer.specs.declared.state.Transfer.{Transfer}
 use Rattle.transfer.specs.declared.state.Step.{Step}
 use Rattle.transfer.specs.Phases.{idle, toldOrReceiving, receivingOrDone}
 use Rattle.transfer.specs.Identities.{identityOf, sameIdentity}
-use Rattle.transfer.specs.Transfers.{startedCheck, withCheck, otherChannel, noted}
+use Rattle.image.specs.Checks.{startedCheck, readOn, saying}
+use Rattle.transfer.specs.Transfers.{Effect, unwritten, withCheck, otherChannel, noted}
 use Rattle.transfer.specs.FA.{refusedFA, answerFA}
 use Rattle.transfer.specs.FB.{stateFB, afterFB, grantFB, answerFB}
 use Rattle.transfer.specs.FC.{answerFC}
-use Rattle.transfer.specs.FD.{takes, answerFD}
-use Rattle.transfer.specs.FE.{rightCrc, answerFE, endedFE}
-use Rattle.transfer.specs.Portions.{unread, readOn, portionOf}
+use Rattle.transfer.specs.FD.{takes, effectFD, answerFD}
+use Rattle.transfer.specs.FE.{answerFE, endedFE}
+use Rattle.transfer.specs.Portions.{unread, checkStep, willSay, rightCrc}
 use Rattle.transfer.proofs.PhaseLaws.{image-busy, ending-image}
-use Rattle.transfer.proofs.Slices.{willSay, started-says, goes-on, ends}
+use Rattle.transfer.proofs.Ends.{started-says, goes-on, ends}
 use Rattle.session.specs.declared.session.Session.{Session}
 use Rattle.session.specs.declared.answer.Answer.{Answer}
 use Rattle.session.specs.Boards.{pastBoard}
 use Rattle.session.specs.Lawful.{unlawful, Lawful}
-use Rattle.session.specs.Answering.{unchanged, stepped, placeFor, stepOf, areaOf, routed, routedArea, byHeader, headerOfFrame, judged, judgedArea, answered, areaAfter}
+use Rattle.session.specs.Answering.{unchanged, stepped, within, placeFor, effectOf, routed, byHeader, headerOfFrame, judged, reaction, answered, areaAfter}
 use Rattle.session.specs.Checking.{checkedBy, checked}
 use Rattle.session.specs.OneGo.{inOneGo}
 use Rattle.session.proofs.Lawfuls.{lawful, lawful-accepted}
-use Rattle.session.proofs.Headers.{by-header, by-headers}
+use Rattle.session.proofs.Headers.{by-header}
 use Rattle.session.proofs.Kept.{withTransfer, fe-kept}
-use Rattle.session.proofs.Unanswered.{both-choices}
 use Rattle.session.proofs.TableFrames.{is-fe}
 
 false-true : {A : Type 0} → false ≡ true → A
@@ -59,23 +59,23 @@ module _ (t : Transfer) (still : t .check .running ≡ false) where
   fb-check : (b : Board) (r : _) (area : List ℕ) → Kept (answerFB t b r area)
   unfolding answerFB grantFB afterFB
   fb-check b r area =
-      of-both Kept (idle (t .phase) || otherChannel t (r .channel)) _ _ refl
+      of-both Kept (idle (t .leg .phase) || otherChannel t (r .channel)) _ _ refl
       (of-both Kept (eqb (stateFB b r (length area)) 0) _ _ (of-both (λ (u : Transfer). u .check ≡ t .check) (sameIdentity (identityOf r) (t .image)) _ _ refl refl) refl)
 
   fc-check : (r : _) → Kept (answerFC t r)
   unfolding answerFC
-  fc-check r = of-both Kept (not (toldOrReceiving (t .phase)) || otherChannel t (r .channel)) _ _ refl refl
+  fc-check r = of-both Kept (not (toldOrReceiving (t .leg .phase)) || otherChannel t (r .channel)) _ _ refl refl
 
   fd-check : (r : _) (p area : List ℕ) → Kept (answerFD t r p area)
-  unfolding answerFD
-  fd-check r p area = of-both (λ (u : Transfer). u .check ≡ t .check) (takes t r p area) _ _ refl refl
+  unfolding effectFD
+  fd-check r p area = of-both (λ (x : Effect Step). Kept (x .gives)) (takes t r p area) _ _ refl refl
 
   fe-starts : (channel : ℕ) → answerFE t channel .transfer .check .running ≡ true → answerFE t channel ≡ noted (withCheck t startedCheck)
   unfolding answerFE
   fe-starts channel =
       let Starts : Step → Type 0 = λ x. x .transfer .check .running ≡ true → x ≡ noted (withCheck t startedCheck) in
-      of-both Starts (not (receivingOrDone (t .phase)) || otherChannel t channel) _ _ (λ e. false-true (sym still ∙ e))
-      (of-both Starts (not (eqb (t .stored) (t .image .announced))) _ _ (λ e. false-true (sym still ∙ e)) (λ e. refl))
+      of-both Starts (not (receivingOrDone (t .leg .phase)) || otherChannel t channel) _ _ (λ e. false-true (sym still ∙ e))
+      (of-both Starts (not (eqb (t .progress .stored) (t .image .announced))) _ _ (λ e. false-true (sym still ∙ e)) (λ e. refl))
 
   -- what is known of a frame that starts a check
   record Starting (f : FinishedFrame) (x : Step) : Type 0 where
@@ -86,23 +86,26 @@ module _ (t : Transfer) (still : t .check .running ≡ false) where
     not-fc : eqb (f .command) 0xFC ≡ false
     not-fd : eqb (f .command) 0xFD ≡ false
 
-  step-starts : (f : FinishedFrame) (b : Board) (area : List ℕ) → stepOf t f b area .transfer .check .running ≡ true → Starting f (stepOf t f b area)
-  unfolding stepOf
+  step-starts : (f : FinishedFrame) (b : Board) (area : List ℕ) → effectOf t f b area .gives .transfer .check .running ≡ true
+      → Starting f (effectOf t f b area .gives) × (effectOf t f b area .area ≡ area)
+  unfolding effectOf
   step-starts f b area e = go (eqb (f .command) 0xFA) (eqb (f .command) 0xFB) (eqb (f .command) 0xFC) (eqb (f .command) 0xFD) refl refl refl refl
     where
-      no : {A : Type 0} (x : Step) → stepOf t f b area ≡ x → Kept x → A
+      no : {A : Type 0} (x : Step) → effectOf t f b area .gives ≡ x → Kept x → A
       no x is kept = false-true (sym still ∙ sym (ap (λ (c : Check). c .running) kept) ∙ sym (ap (λ (y : Step). y .transfer .check .running) is) ∙ e)
 
-      go : (p q u v : Bool) → eqb (f .command) 0xFA ≡ p → eqb (f .command) 0xFB ≡ q → eqb (f .command) 0xFC ≡ u → eqb (f .command) 0xFD ≡ v → Starting f (stepOf t f b area)
+      go : (p q u v : Bool) → eqb (f .command) 0xFA ≡ p → eqb (f .command) 0xFB ≡ q → eqb (f .command) 0xFC ≡ u → eqb (f .command) 0xFD ≡ v
+          → Starting f (effectOf t f b area .gives) × (effectOf t f b area .area ≡ area)
       go true q u v ep eq eu ev = no (answerFA t b (requestFA (f .bytes))) (rw ep) (fa-check b (requestFA (f .bytes)))
       go false true u v ep eq eu ev = no (answerFB t b (requestFB (f .bytes)) area) (rw (ep, eq)) (fb-check b (requestFB (f .bytes)) area)
       go false false true v ep eq eu ev = no (answerFC t (requestFC (f .bytes))) (rw (ep, eq, eu)) (fc-check (requestFC (f .bytes)))
       go false false false true ep eq eu ev =
           no (answerFD t (requestFD (f .bytes)) (packetOf (f .length) (f .bytes)) area) (rw (ep, eq, eu, ev)) (fd-check (requestFD (f .bytes)) (packetOf (f .length) (f .bytes)) area)
       go false false false false ep eq eu ev =
-          let x : stepOf t f b area ≡ answerFE t (channelOf (f .bytes)) = rw (ep, eq, eu, ev) in
-          let starts = fe-starts (channelOf (f .bytes)) (sym (ap (λ (y : Step). y .transfer .check .running) x) ∙ e) in
-          record { is = x ∙ starts; answers = starts; not-fa = ep; not-fb = eq; not-fc = eu; not-fd = ev }
+          let x : effectOf t f b area ≡ unwritten (answerFE t (channelOf (f .bytes))) area = rw (ep, eq, eu, ev) in
+          let g = ap (λ (y : Effect Step). y .gives) x in
+          let starts = fe-starts (channelOf (f .bytes)) (sym (ap (λ (y : Step). y .transfer .check .running) g) ∙ e) in
+          (record { is = g ∙ starts; answers = starts; not-fa = ep; not-fb = eq; not-fc = eu; not-fd = ev }, ap (λ (y : Effect Step). y .area) x)
 
 -- a frame after which a check runs, though none did before
 pub record StartedBy (s : Session) (f : FinishedFrame) (area : List ℕ) : Type 0 where
@@ -113,12 +116,12 @@ pub record StartedBy (s : Session) (f : FinishedFrame) (area : List ℕ) : Type 
 
 pub started-by : (s : Session) (f : FinishedFrame) (area : List ℕ) → s .transfer .check .running ≡ false → answered s f area .session .transfer .check .running ≡ true
     → StartedBy s f area
-unfolding answered areaAfter judged judgedArea routed routedArea areaOf
+unfolding reaction judged routed
 started-by s f area still e =
     go (unlawful s) (not (eqb (length area) (s .opened))) (headerOfFrame f) (eqb (f .command) 0xF9) (ltb (placeFor s f) (s .count)) refl refl refl refl refl
   where
-    no : (n : ℕ) → answered s f area ≡ unchanged n s → StartedBy s f area
-    no n is = false-true (sym still ∙ sym (ap (λ (a : Answer). a .session .transfer .check .running) is) ∙ e)
+    no : (n : ℕ) → reaction s f area ≡ unwritten (unchanged n s) area → StartedBy s f area
+    no n is = false-true (sym still ∙ sym (ap (λ (x : Effect Answer). x .gives .session .transfer .check .running) is) ∙ e)
 
     go : (a b : Bool) (h : Header) (c d : Bool) → unlawful s ≡ a → not (eqb (length area) (s .opened)) ≡ b → headerOfFrame f ≡ h → eqb (f .command) 0xF9 ≡ c
         → ltb (placeFor s f) (s .count) ≡ d → StartedBy s f area
@@ -130,13 +133,16 @@ started-by s f area still e =
     go false false Right false false ea eb eh ec ed = no 4 (rw (ea, eb, eh, ec, ed))
     go false false Right false true ea eb eh ec ed =
         let board = getD (s .boards) (placeFor s f) pastBoard in
-        let x : answered s f area ≡ stepped s (stepOf (s .transfer) f board area) = rw (ea, eb, eh, ec, ed, still) in
-        let y = step-starts (s .transfer) still f board area (sym (ap (λ (a : Answer). a .session .transfer .check .running) x) ∙ e) in
+        let step = effectOf (s .transfer) f board area in
+        let x : reaction s f area ≡ within s step = rw (ea, eb, eh, ec, ed, still) in
+        let g = ap (λ (z : Effect Answer). z .gives) x in
+        let both = step-starts (s .transfer) still f board area (sym (ap (λ (a : Answer). a .session .transfer .check .running) g) ∙ e) in
+        let y = both .0 in
         record {
           command = is-fe f eh ec (y .not-fa) (y .not-fb) (y .not-fc) (y .not-fd);
-          is = x ∙ ap (stepped s) (y .is);
+          is = g ∙ ap (stepped s) (y .is);
           answers = y .answers;
-          same-area = rw (ea, eb, eh, ec, ed, still) (rw (y .not-fd));
+          same-area = ap (λ (z : Effect Answer). z .area) x ∙ both .1;
         }
 
 pub started-lawful : (s : Session) (f : FinishedFrame) (area : List ℕ) → unlawful s ≡ false → s .transfer .check .running ≡ false → StartedBy s f area
@@ -144,38 +150,36 @@ pub started-lawful : (s : Session) (f : FinishedFrame) (area : List ℕ) → unl
 started-lawful s f area ok still y =
     lawful-accepted _ (subst (λ (x : Step). Lawful (withTransfer s (x .transfer))) (y .answers) (fe-kept s (lawful s ok) still (channelOf (f .bytes))))
 
--- where the test holds
-first-choices : (P : Answer → List ℕ → Type 0) (x : Bool) (a b : Answer) (m n : List ℕ) → x ≡ true → P a m → P (cond x a b) (cond x m n)
-first-choices P true a b m n e p = p
-first-choices P false a b m n e p = false-true e
-
 -- while a check runs, no frame changes anything or has a reply
-pub record RunningSame (s : Session) (area : List ℕ) (a : Answer) (after : List ℕ) : Type 0 where
-  pub same-session : a .session ≡ s
-  pub no-reply : a .replies ≡ false
-  pub same-area : after ≡ area
+pub record RunningSame (s : Session) (area : List ℕ) (x : Effect Answer) : Type 0 where
+  pub same-session : x .gives .session ≡ s
+  pub no-reply : x .gives .replies ≡ false
+  pub same-area : x .area ≡ area
 
-pub running-same : (s : Session) (f : FinishedFrame) (area : List ℕ) → s .transfer .check .running ≡ true → RunningSame s area (answered s f area) (areaAfter s f area)
-unfolding answered areaAfter judged judgedArea routed routedArea
+pub running-same : (s : Session) (f : FinishedFrame) (area : List ℕ) → s .transfer .check .running ≡ true → RunningSame s area (reaction s f area)
+unfolding reaction judged routed
 running-same s f area runs =
-    let P : Answer → List ℕ → Type 0 = RunningSame s area in
-    let same : (n : ℕ) → P (unchanged n s) area = λ n. record { same-session = refl; no-reply = refl; same-area = refl } in
-    both-choices P (unlawful s) _ _ _ _ (same 9)
-    (both-choices P (not (eqb (length area) (s .opened))) _ _ _ _ (same 6)
-    (by-headers P (headerOfFrame f) _ _ _ _ _ _ (same 2) (same 3)
-    (both-choices P (eqb (f .command) 0xF9) _ _ _ _ (same 0)
-    (both-choices P (ltb (placeFor s f) (s .count)) _ _ _ _ (first-choices P (s .transfer .check .running) _ _ _ _ runs (same 12)) (same 4)))))
+    let P = RunningSame s area in
+    let same : (n : ℕ) → P (unwritten (unchanged n s) area) = λ n. record { same-session = refl; no-reply = refl; same-area = refl } in
+    of-both P (unlawful s) _ _ (same 9)
+    (of-both P (not (eqb (length area) (s .opened))) _ _ (same 6)
+    (by-header P (headerOfFrame f) _ _ _ (same 2) (same 3)
+    (of-both P (eqb (f .command) 0xF9) _ _ (same 0)
+    (of-both P (ltb (placeFor s f) (s .count)) _ _
+    (of-each P (s .transfer .check .running) _ _ (λ _. same 12) (λ e. false-true (sym e ∙ runs)))
+    (same 4)))))
 
 -- it gets 2 or 3, is noted, or gets 12 or 4
 module _ (s : Session) (f : FinishedFrame) (area : List ℕ) where
   abbrev pub met : ℕ
   met = byHeader (headerOfFrame f) 2 3 (cond (eqb (f .command) 0xF9) 0 (cond (ltb (placeFor s f) (s .count)) 12 4))
 
-  pub running-answers : unlawful s ≡ false → length area ≡ s .opened → s .transfer .check .running ≡ true → answered s f area ≡ unchanged met s
-  unfolding answered judged routed
+  pub running-answers : unlawful s ≡ false → length area ≡ s .opened → s .transfer .check .running ≡ true → reaction s f area ≡ unwritten (unchanged met s) area
+  unfolding reaction judged routed
   running-answers ok size runs = go (headerOfFrame f) (eqb (f .command) 0xF9) (ltb (placeFor s f) (s .count)) refl refl refl
     where
-      go : (h : Header) (a b : Bool) → headerOfFrame f ≡ h → eqb (f .command) 0xF9 ≡ a → ltb (placeFor s f) (s .count) ≡ b → answered s f area ≡ unchanged met s
+      go : (h : Header) (a b : Bool) → headerOfFrame f ≡ h → eqb (f .command) 0xF9 ≡ a → ltb (placeFor s f) (s .count) ≡ b
+          → reaction s f area ≡ unwritten (unchanged met s) area
       go Unlisted a b eh ea eb = rw (ok, eq-eqb (length area) (s .opened) size, eh)
       go Wrong a b eh ea eb = rw (ok, eq-eqb (length area) (s .opened) size, eh)
       go Right true b eh ea eb = rw (ok, eq-eqb (length area) (s .opened) size, eh, ea)
@@ -184,10 +188,10 @@ module _ (s : Session) (f : FinishedFrame) (area : List ℕ) where
 
 -- while none runs, no frame gets 12
 pub still-answers : (s : Session) (f : FinishedFrame) (area : List ℕ) → s .transfer .check .running ≡ false → answered s f area .outcome ≡ 12 → ⊥
-unfolding answered judged routed
+unfolding reaction judged routed
 still-answers s f area still =
-    let P : Answer → Type 0 = λ a. a .outcome ≡ 12 → ⊥ in
-    let step = stepOf (s .transfer) f (getD (s .boards) (placeFor s f) pastBoard) area in
+    let P : Effect Answer → Type 0 = λ x. x .gives .outcome ≡ 12 → ⊥ in
+    let step = effectOf (s .transfer) f (getD (s .boards) (placeFor s f) pastBoard) area .gives in
     of-both P (unlawful s) _ _ (λ z. omega arith)
     (of-both P (not (eqb (length area) (s .opened))) _ _ (λ z. omega arith)
     (by-header P (headerOfFrame f) _ _ _ (λ z. omega arith) (λ z. omega arith)
@@ -221,7 +225,7 @@ module _ (s : Session) (most : ℕ) (area : List ℕ) (ok : unlawful s ≡ false
   inside : t .check .read < t .image .announced
   inside = lawful s ok .check-unread runs
 
-  pub is-portion : checked s most area ≡ checkedBy s (portionOf t most area)
+  pub is-portion : checked s most area ≡ checkedBy s (checkStep t most area)
   unfolding checked
   is-portion = rw (ok, eq-eqb (length area) (s .opened) size, runs)
 
@@ -267,15 +271,15 @@ module _ (s : Session) (most : ℕ) (area : List ℕ) (ok : unlawful s ≡ false
 
   -- finished: what was due
   pub record Finished : Type 0 where
-    pub is : checked s most area ≡ checkedBy s (record { count = unread t; verdict = cond (willSay t area) RightCrc WrongCrc; step = dueOf s area })
+    pub is : checked s most area ≡ checkedBy s (record { count = unread t; verdict = saying (willSay t area); step = dueOf s area })
     pub lawful-after : unlawful (withTransfer s (dueOf s area .transfer)) ≡ false
 
   ended-lawful : (right : Bool) → unlawful (withTransfer s (endedFE t right .transfer)) ≡ false
   unfolding endedFE
   ended-lawful true =
       let l = lawful s ok in
-      let image = ending-image (t .phase) (l .check-phase runs) in
-      let busy = image-busy (t .phase) image in
+      let image = ending-image (t .leg .phase) (l .check-phase runs) in
+      let busy = image-busy (t .leg .phase) image in
       lawful-accepted _
       (record {
         list = l .list;

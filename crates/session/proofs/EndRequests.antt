@@ -10,35 +10,40 @@ use lib.Dec.{ltb, eqb}
 use lib.ListN.{length, getD, take}
 use Rattle.crc.specs.Crc.{checksum, crc32}
 use Rattle.frames.specs.declared.finished.FinishedFrame.{FinishedFrame}
-use Rattle.frames.specs.Finished.{padded}
-use Rattle.frames.proofs.Choices.{neither, of-both}
+use Rattle.sequences.specs.Padding.{padded}
+use Rattle.sequences.proofs.Conditionals.{neither, of-both}
 use Rattle.commands.specs.declared.table.Header.the-variants.{Right}
-use Rattle.commands.specs.Search.{find}
-use Rattle.commands.specs.Table.{table, rowAt, placeOf as placeOfCommand, headerOf}
+use Rattle.sequences.specs.Search.{find}
+use Rattle.commands.specs.Table.{table, rowAt, placeInTable, headerOf}
 use Rattle.commands.specs.Replies.{maxReply, replyState}
+use Rattle.commands.specs.Requests.{channelOf}
+use Rattle.transfer.specs.declared.board.Board.{Board}
 use Rattle.transfer.specs.declared.state.Transfer.{Transfer}
 use Rattle.transfer.specs.declared.state.Step.{Step}
 use Rattle.transfer.specs.Phases.{receivingOrDone}
-use Rattle.transfer.specs.Transfers.{startedCheck, withCheck, otherChannel, replied, noted}
-use Rattle.transfer.specs.FE.{reachesCrc, rightCrc, answerFE, endedFE}
+use Rattle.image.specs.Checks.{startedCheck}
+use Rattle.transfer.specs.Transfers.{Effect, unwritten, withCheck, otherChannel, replied, noted}
+use Rattle.transfer.specs.FE.{reachesCrc, answerFE, endedFE}
+use Rattle.transfer.specs.Portions.{rightCrc}
 use Rattle.transfer.proofs.PhaseLaws.{image-busy, ending-image}
 use Rattle.session.specs.declared.session.Session.{Session}
 use Rattle.session.specs.declared.answer.Answer.{Answer}
-use Rattle.session.specs.Boards.{placeOf}
+use Rattle.session.specs.Boards.{pastBoard, placeOf}
 use Rattle.session.specs.Lawful.{unlawful}
-use Rattle.session.specs.Answering.{unchanged, stepped, placeFor, stepOf, areaOf, routed, routedArea, headerOfFrame, judged, judgedArea, answered, areaAfter}
+use Rattle.session.specs.Answering.{unchanged, stepped, within, placeFor, effectOf, routed, headerOfFrame, judged, reaction, answered, areaAfter}
 use Rattle.session.specs.OneGo.{inOneGo}
 use Rattle.session.specs.EndRequest.{IsEndRequest, Complete, SuccessIn, EndRequest}
+use Rattle.session.proofs.Headers.{by-header}
 use Rattle.session.proofs.Lawfuls.{lawful}
 
 -- ---- the transfer's part
 
 -- an end request does not get as far as the CRC: by phase or channel, or by the stored length
 abbrev early : Transfer → ℕ → Bool
-early t channel = not (receivingOrDone (t .phase)) || otherChannel t channel
+early t channel = not (receivingOrDone (t .leg .phase)) || otherChannel t channel
 
 abbrev short : Transfer → Bool
-short t = not (eqb (t .stored) (t .image .announced))
+short t = not (eqb (t .progress .stored) (t .image .announced))
 
 -- FE with its check in one go
 unfoldable goFE : Transfer → ℕ → List ℕ → Step
@@ -52,10 +57,10 @@ not-success m k n e = ap (λ (d : List ℕ). getD d 1 0) e
 
 module _ (t : Transfer) (channel : ℕ) (area : List ℕ) where
   complete-late : Complete t channel area → early t channel ≡ false
-  complete-late c = ap₂ _||_ (ap not (c .open-or-accepted)) (ap not (eq-eqb channel (t .channel) (c .here)))
+  complete-late c = ap₂ _||_ (ap not (c .open-or-accepted)) (ap not (eq-eqb channel (t .leg .channel) (c .here)))
 
   complete-full : Complete t channel area → short t ≡ false
-  complete-full c = ap not (eq-eqb (t .stored) (t .image .announced) (c .all-stored))
+  complete-full c = ap not (eq-eqb (t .progress .stored) (t .image .announced) (c .all-stored))
 
   complete-success : Complete t channel area → goFE t channel area .reply ≡ padded maxReply (replyState channel 0)
   unfolding goFE endedFE
@@ -70,13 +75,13 @@ module _ (t : Transfer) (channel : ℕ) (area : List ℕ) where
       go : (a b c : Bool) → early t channel ≡ a → short t ≡ b → rightCrc t area ≡ c → Complete t channel area
       go true b c ea eb ec = absurd (let z = not-success channel channel 3 (simp ea at e) in omega arith)
       go false true c ea eb ec = absurd (let z = not-success channel channel 1 (simp (ea, eb) at e) in omega arith)
-      go false false false ea eb ec = absurd (let z = not-success (t .channel) channel 3 (simp (ea, eb, ec) at e) in omega arith)
+      go false false false ea eb ec = absurd (let z = not-success (t .leg .channel) channel 3 (simp (ea, eb, ec) at e) in omega arith)
       go false false true ea eb ec =
-          let n = neither (not (receivingOrDone (t .phase))) _ ea in
+          let n = neither (not (receivingOrDone (t .leg .phase))) _ ea in
           record {
             open-or-accepted = not-false _ (n .0);
-            here = eqb-true channel (t .channel) (not-false _ (n .1));
-            all-stored = eqb-true (t .stored) (t .image .announced) (not-false _ eb);
+            here = eqb-true channel (t .leg .channel) (not-false _ (n .1));
+            all-stored = eqb-true (t .progress .stored) (t .image .announced) (not-false _ eb);
             right = eqb-true _ (t .image .crc) ec;
           }
 
@@ -93,7 +98,7 @@ module _ (t : Transfer) (channel : ℕ) (area : List ℕ) where
 -- ---- the session's
 
 pub fe-header : (f : FinishedFrame) (channel : ℕ) → IsEndRequest f channel → headerOfFrame f ≡ Right
-unfolding headerOf placeOfCommand rowAt table find
+unfolding headerOf placeInTable rowAt table find
 fe-header f channel r = simp (r .command, r .version, r .size)
 
 module _ (s : Session) (f : FinishedFrame) (channel : ℕ) (area : List ℕ) (e : unlawful s ≡ false) (size : length area ≡ s .opened) (r : IsEndRequest f channel) where
@@ -104,25 +109,30 @@ module _ (s : Session) (f : FinishedFrame) (channel : ℕ) (area : List ℕ) (e 
   listed = ltb (placeFor s f) (s .count)
 
   -- the session's channel is listed
-  own-listed : receivingOrDone (t .phase) ≡ true → channel ≡ t .channel → listed ≡ true
+  own-listed : receivingOrDone (t .leg .phase) ≡ true → channel ≡ t .leg .channel → listed ≡ true
   own-listed ending here =
-      let own = lawful s e .listed (image-busy (t .phase) (ending-image (t .phase) ending)) in
-      let place : placeFor s f ≡ placeOf (s .boards) (s .count) (t .channel) = ap (placeOf (s .boards) (s .count)) (r .for ∙ here) in
+      let own = lawful s e .listed (image-busy (t .leg .phase) (ending-image (t .leg .phase) ending)) in
+      let place : placeFor s f ≡ placeOf (s .boards) (s .count) (t .leg .channel) = ap (placeOf (s .boards) (s .count)) (r .for ∙ here) in
       lt-ltb (placeFor s f) (s .count) (omega arith)
 
   -- so is that of a transfer that is complete
   complete-listed : Complete t channel area → listed ≡ true
   complete-listed c = own-listed (c .open-or-accepted) (c .here)
 
+  fe-effect : (b : Board) → effectOf t f b area ≡ unwritten (answerFE t (channelOf (f .bytes))) area
+  unfolding effectOf
+  fe-effect b = rw (r .command) refl
+
   -- an end request writes nothing into the area
   pub fe-area : areaAfter s f area ≡ area
-  unfolding areaAfter judgedArea routedArea areaOf
-  fe-area = rw (e, eq-eqb (length area) (s .opened) size, fe-header f channel r) (simp (r .command) (both (ltb (placeFor s f) (s .count)) (t .check .running)))
-    where
-      both : (a b : Bool) → cond a (cond b area area) area ≡ area
-      both true true = refl
-      both true false = refl
-      both false b = refl
+  unfolding reaction judged routed
+  fe-area =
+      let P : Effect Answer → Type 0 = λ x. x .area ≡ area in
+      of-both P (unlawful s) _ _ refl
+      (of-both P (not (eqb (length area) (s .opened))) _ _ refl
+      (by-header P (headerOfFrame f) _ _ _ refl refl
+      (of-both P (eqb (f .command) 0xF9) _ _ refl
+      (of-both P (ltb (placeFor s f) (s .count)) _ _ (of-both P (t .check .running) _ _ refl (ap (λ (x : Effect Step). x .area) (fe-effect (getD (s .boards) (placeFor s f) pastBoard)))) refl))))
 
   -- one for an unlisted channel is not complete
   pub unlisted-incomplete : listed ≡ false → Complete t channel area → ⊥
@@ -131,11 +141,18 @@ module _ (s : Session) (f : FinishedFrame) (channel : ℕ) (area : List ℕ) (e 
   -- while none runs
   module _ (still : t .check .running ≡ false) where
     -- past 9, 6, 2, 3 and 12
-    fe-routed : answered s f area ≡ cond listed (stepped s (answerFE t channel)) (unchanged 4 s)
-    unfolding answered judged routed stepOf
-    fe-routed =
+    fe-reaction : reaction s f area ≡ cond listed (within s (unwritten (answerFE t channel) area)) (unwritten (unchanged 4 s) area)
+    unfolding reaction judged routed effectOf
+    fe-reaction =
         let header = fe-header f channel r in
         rw (e, eq-eqb (length area) (s .opened) size, header, still) (simp (r .command, r .for))
+
+    fe-routed : answered s f area ≡ cond listed (stepped s (answerFE t channel)) (unchanged 4 s)
+    fe-routed = ap (λ (x : Effect Answer). x .gives) fe-reaction ∙ out listed
+      where
+        out : (b : Bool) → cond b (within s (unwritten (answerFE t channel) area)) (unwritten (unchanged 4 s) area) .gives ≡ cond b (stepped s (answerFE t channel)) (unchanged 4 s)
+        out true = refl
+        out false = refl
 
     -- with the check in one go
     in-one-go : inOneGo s f area ≡ cond listed (stepped s (goFE t channel area)) (unchanged 4 s)
@@ -177,19 +194,19 @@ module _ (s : Session) (f : FinishedFrame) (channel : ℕ) (area : List ℕ) (e 
     -- it starts a check exactly when it gets as far as the CRC
     pub starts-at-crc : answered s f area .session .transfer .check .running ≡ reachesCrc t channel
     unfolding answerFE
-    starts-at-crc = go listed (receivingOrDone (t .phase)) (otherChannel t channel) (eqb (t .stored) (t .image .announced)) refl refl refl refl
+    starts-at-crc = go listed (receivingOrDone (t .leg .phase)) (otherChannel t channel) (eqb (t .progress .stored) (t .image .announced)) refl refl refl refl
       where
-        go : (l a b c : Bool) → listed ≡ l → receivingOrDone (t .phase) ≡ a → otherChannel t channel ≡ b → eqb (t .stored) (t .image .announced) ≡ c
+        go : (l a b c : Bool) → listed ≡ l → receivingOrDone (t .leg .phase) ≡ a → otherChannel t channel ≡ b → eqb (t .progress .stored) (t .image .announced) ≡ c
             → answered s f area .session .transfer .check .running ≡ reachesCrc t channel
         go l false b c el ea eb ec = none-starts (simp (ea, still)) ∙ simp ea
         go l true true c el ea eb ec = none-starts (simp (ea, eb, still)) ∙ simp (ea, eb)
         go l true false false el ea eb ec = none-starts (simp (ea, eb, ec, still)) ∙ simp (ea, eb, ec)
         go true true false true el ea eb ec = ap (λ (x : Answer). x .session .transfer .check .running) fe-routed ∙ simp (el, ea, eb, ec)
-        go false true false true el ea eb ec = absurd (let z = sym (own-listed ea (eqb-true channel (t .channel) (not-false _ eb))) ∙ el in let y : _≡_ {A = ℕ} 0 1 = cc in omega arith)
+        go false true false true el ea eb ec = absurd (let z = sym (own-listed ea (eqb-true channel (t .leg .channel) (not-false _ eb))) ∙ el in let y : _≡_ {A = ℕ} 0 1 = cc in omega arith)
 
     -- a complete transfer's end request does
     pub complete-reaches : Complete t channel area → reachesCrc t channel ≡ true
-    complete-reaches c = simp (c .open-or-accepted, eq-eqb channel (t .channel) (c .here), eq-eqb (t .stored) (t .image .announced) (c .all-stored))
+    complete-reaches c = simp (c .open-or-accepted, eq-eqb channel (t .leg .channel) (c .here), eq-eqb (t .progress .stored) (t .image .announced) (c .all-stored))
 
     -- one that starts none is answered 03 or 01, or not at all
     pub early-answers : answered s f area .session .transfer .check .running ≡ false
@@ -220,11 +237,11 @@ module _ (s : Session) (f : FinishedFrame) (channel : ℕ) (area : List ℕ) (e 
         go true true b el ea eb = no (stepped s (replied t (replyState channel 3))) (fe-routed ∙ simp (el, ea)) still
         go true false true el ea eb = no (stepped s (replied t (replyState channel 1))) (fe-routed ∙ simp (el, ea, eb)) still
         go true false false el ea eb =
-            let n = neither (not (receivingOrDone (t .phase))) _ ea in
+            let n = neither (not (receivingOrDone (t .leg .phase))) _ ea in
             record {
               open-or-accepted = not-false _ (n .0);
-              here = eqb-true channel (t .channel) (not-false _ (n .1));
-              all-stored = eqb-true (t .stored) (t .image .announced) (not-false _ eb);
+              here = eqb-true channel (t .leg .channel) (not-false _ (n .1));
+              all-stored = eqb-true (t .progress .stored) (t .image .announced) (not-false _ eb);
               right = right;
             }
 

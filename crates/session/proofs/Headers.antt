@@ -7,9 +7,3 @@ pub by-header : {A : Type 0} (P : A → Type 0) (h : Header) (a b c : A) → P a
 by-header P Unlisted a b c p q r = p
 by-header P Wrong a b c p q r = q
 by-header P Right a b c p q r = r
-
--- of two choices by the same header
-pub by-headers : {A B : Type 0} (P : A → B → Type 0) (h : Header) (a b c : A) (l m n : B) → P a l → P b m → P c n → P (byHeader h a b c) (byHeader h l m n)
-by-headers P Unlisted a b c l m n p q r = p
-by-headers P Wrong a b c l m n p q r = q
-by-headers P Right a b c l m n p q r = r

@@ -8,10 +8,10 @@ use borrow.Author.Tests.{ltb-false}
 use lib.Dec.{ltb, eqb}
 use lib.ListN.{length, take, replicate, List·getD-append}
 use lib.Seq.{length-take-le, getD-take}
-use Rattle.commands.specs.Search.{find}
+use Rattle.sequences.specs.Search.{find}
 use Rattle.transfer.specs.declared.board.Board.{Board}
-use Rattle.frames.proofs.Choices.{neither}
-use Rattle.session.specs.Outcomes.{isAnswered}
+use Rattle.sequences.proofs.Conditionals.{neither}
+use Rattle.commands.specs.Outcomes.{accepted}
 use Rattle.session.specs.Boards.{maxBoards, noBoard, pastBoard, channelAt, hasChannel, placeOf, badBoard, badList, listOf}
 use Rattle.commands.specs.Limits.{maxArea}
 use Rattle.session.specs.Opening.{badArea, noSession, freshSession, opened}
@@ -75,7 +75,7 @@ pub record Usable (bs : List Board) (n area : ℕ) : Type 0 where
   pub fresh : opened bs n area .session ≡ freshSession bs n area
   pub accepted : unlawful (opened bs n area .session) ≡ false
 
-pub open-usable : (bs : List Board) (n area : ℕ) → length bs ≡ maxBoards → opened bs n area .outcome ≡ isAnswered → Usable bs n area
+pub open-usable : (bs : List Board) (n area : ℕ) → length bs ≡ maxBoards → opened bs n area .outcome ≡ accepted → Usable bs n area
 unfolding opened
 open-usable bs n area size z = go (badList bs n) (badArea area) refl refl
   where
@@ -87,7 +87,7 @@ open-usable bs n area size z = go (badList bs n) (badArea area) refl refl
         record { fresh = is; accepted = ap unlawful is ∙ lawful-accepted (freshSession bs n area) (fresh-lawful bs n area size ea eb) }
 
 -- a refused opening hands back the all-zero session,
-pub open-refused : (bs : List Board) (n area : ℕ) → (opened bs n area .outcome ≡ isAnswered → ⊥) → opened bs n area .session ≡ noSession
+pub open-refused : (bs : List Board) (n area : ℕ) → (opened bs n area .outcome ≡ accepted → ⊥) → opened bs n area .session ≡ noSession
 unfolding opened
 open-refused bs n area z = go (badList bs n) (badArea area) refl refl
   where

@@ -9,26 +9,17 @@ use lib.Seq.{take-append-seam, take-at, drop-append-add}
 use mathlib.Core.Bool.{true, false}
 use borrow.Author.Tests.{le-ltb}
 use lib.Dec.{ltb}
-use Rattle.frames.specs.Frame.{encode, frameAt}
+use Rattle.fronts.specs.Frame.{encode, frameAt}
 use Rattle.frames.specs.Buffer.{writable, writtenSize, writtenRoom}
-use Rattle.frames.specs.Finished.{padded, zeros}
-use Rattle.frames.proofs.Padding.{drop-zeros}
+use Rattle.sequences.specs.Padding.{padded, zeros}
+use Rattle.sequences.proofs.Padding.{padded-more}
 use Rattle.frames.proofs.Writes.{writable-fits}
 use Rattle.frames.proofs.RoundTrips.{size-written, room-written, frame-written}
 use Rattle.transfer.specs.declared.board.Board.{Board}
-use Rattle.frames.specs.Places.{writtenAt}
+use Rattle.sequences.specs.Places.{writtenAt}
 use Rattle.session.specs.declared.session.Session.{Session}
 use Rattle.session.specs.Boards.{maxBoards, pastBoard}
 use Rattle.session.specs.Report.{boardBytes, boardsBytes, reportBytes, maxReport, reportFrame, reportSize, reportRoom}
-
--- written behind what stands in front of the zeros
-pub padded-more : (n : ℕ) (s p : List ℕ) → writtenAt (padded n s) (length s) p ≡ padded n (s ++ p)
-unfolding writtenAt
-padded-more n s p =
-    let k = n - length s in
-    let left : k - length p ≡ n - length (s ++ p) = omega (arith, length-append s p) in
-    ap₂ (λ (x y : List ℕ). x ++ (p ++ y)) (take-append-seam s (zeros k)) (drop-append-add s (zeros k) (length p) ∙ drop-zeros (length p) k ∙ ap zeros left)
-    ∙ sym (append-assoc s p (zeros (n - length (s ++ p))))
 
 boards-size : (bs : List Board) (n : ℕ) → length (boardsBytes bs n) ≡ 7 * n
 unfolding boardsBytes
@@ -48,12 +39,12 @@ pub soFar-none : (bs : List Board) (m : ℕ) → soFar bs m 0 ≡ m ∷ []
 unfolding boardsBytes
 soFar-none bs m = refl
 
-pub soFar-next : (k : ℕ) (bs : List Board) (m n : ℕ) → writtenAt (padded k (soFar bs m n)) (1 + 7 * n) (boardBytes (getD bs n pastBoard)) ≡ padded k (soFar bs m (n + 1))
+pub soFar-next : (k : ℕ) (bs : List Board) (m n : ℕ) → 1 + 7 * (n + 1) ≤ k → writtenAt (padded k (soFar bs m n)) (1 + 7 * n) (boardBytes (getD bs n pastBoard)) ≡ padded k (soFar bs m (n + 1))
 unfolding boardsBytes
-soFar-next k bs m n =
+soFar-next k bs m n fits =
     let size : 1 + 7 * n ≡ length (soFar bs m n) = omega (arith, boards-size bs n) in
     ap (λ (i : ℕ). writtenAt (padded k (soFar bs m n)) i (boardBytes (getD bs n pastBoard))) size
-    ∙ padded-more k (soFar bs m n) (boardBytes (getD bs n pastBoard))
+    ∙ padded-more k (soFar bs m n) (boardBytes (getD bs n pastBoard)) (omega arith)
     ∙ ap (λ (i : ℕ). padded k (soFar bs m i)) (sym (add-one n))
 
 pub soFar-all : (bs : List Board) (n : ℕ) → soFar bs n n ≡ reportBytes bs n

@@ -8,16 +8,17 @@ use borrow.Author.Tests.{eqb-true, eqb-false, ne-eqb}
 use lib.Dec.{eqb}
 use lib.ListN.{length}
 use Rattle.frames.specs.declared.finished.FinishedFrame.{FinishedFrame}
-use Rattle.frames.proofs.Choices.{of-both}
+use Rattle.sequences.proofs.Conditionals.{of-both}
 use Rattle.commands.specs.declared.table.Header.{Header}
 use Rattle.commands.specs.declared.table.Header.the-variants.{Unlisted, Wrong, Right}
-use Rattle.commands.specs.Search.{find}
-use Rattle.commands.specs.Table.{table, rowAt, placeOf as placeOfCommand, headerOf}
+use Rattle.sequences.specs.Search.{find}
+use Rattle.commands.specs.Table.{table, rowAt, placeInTable, headerOf}
 use Rattle.commands.specs.Replies.{hasReply}
+use Rattle.transfer.specs.Transfers.{Effect, unwritten}
 use Rattle.session.specs.declared.session.Session.{Session}
 use Rattle.session.specs.declared.answer.Answer.{Answer}
 use Rattle.session.specs.Lawful.{unlawful}
-use Rattle.session.specs.Answering.{unchanged, routed, headerOfFrame, judged, answered}
+use Rattle.session.specs.Answering.{unchanged, routed, headerOfFrame, judged, reaction}
 
 flip : (m n : ℕ) → eqb m n ≡ false → eqb n m ≡ false
 flip m n e = ne-eqb n m (λ z. eqb-false m n e (sym z))
@@ -25,7 +26,7 @@ flip m n e = ne-eqb n m (λ z. eqb-false m n e (sym z))
 -- one that is none of the others is FE
 pub is-fe : (f : FinishedFrame) → headerOfFrame f ≡ Right → eqb (f .command) 0xF9 ≡ false → eqb (f .command) 0xFA ≡ false → eqb (f .command) 0xFB ≡ false
     → eqb (f .command) 0xFC ≡ false → eqb (f .command) 0xFD ≡ false → f .command ≡ 0xFE
-unfolding headerOf placeOfCommand rowAt table find
+unfolding headerOf placeInTable rowAt table find
 is-fe f h e9 ea eb ec ed = go (eqb (f .command) 0xFE) refl
   where
     go : (b : Bool) → eqb (f .command) 0xFE ≡ b → f .command ≡ 0xFE
@@ -34,7 +35,7 @@ is-fe f h e9 ea eb ec ed = go (eqb (f .command) 0xFE) refl
 
 -- each but F9 has a reply
 has-reply : (f : FinishedFrame) → headerOfFrame f ≡ Right → eqb (f .command) 0xF9 ≡ false → hasReply (f .command) ≡ true
-unfolding hasReply placeOfCommand rowAt table find
+unfolding hasReply placeInTable rowAt table find
 has-reply f h e9 = go (eqb (f .command) 0xFA) (eqb (f .command) 0xFB) (eqb (f .command) 0xFC) (eqb (f .command) 0xFD) refl refl refl refl
   where
     of : (c : ℕ) → eqb (f .command) c ≡ true → hasReply (f .command) ≡ hasReply c
@@ -49,21 +50,22 @@ has-reply f h e9 = go (eqb (f .command) 0xFA) (eqb (f .command) 0xFB) (eqb (f .c
 
 -- whether there is a reply is the answer's to say, and the command never says otherwise
 module _ (s : Session) (f : FinishedFrame) (area : List ℕ) where
-  abbrev Listed : Answer → Type 0
-  Listed a = a .replies ≡ true → hasReply (f .command) ≡ true
+  abbrev Listed : Effect Answer → Type 0
+  Listed x = x .gives .replies ≡ true → hasReply (f .command) ≡ true
 
-  silent : (n : ℕ) → Listed (unchanged n s)
+  silent : (n : ℕ) → Listed (unwritten (unchanged n s) area)
   silent n e = let z : _≡_ {A = ℕ} 0 1 = cc in absurd (omega arith)
 
-  refused : (a : Answer) → Listed a → Listed (cond (unlawful s) (unchanged 9 s) (cond (not (eqb (length area) (s .opened))) (unchanged 6 s) a))
-  refused a p = of-both Listed (unlawful s) _ _ (silent 9) (of-both Listed (not (eqb (length area) (s .opened))) _ _ (silent 6) p)
+  refused : (x : Effect Answer) → Listed x
+      → Listed (cond (unlawful s) (unwritten (unchanged 9 s) area) (cond (not (eqb (length area) (s .opened))) (unwritten (unchanged 6 s) area) x))
+  refused x p = of-both Listed (unlawful s) _ _ (silent 9) (of-both Listed (not (eqb (length area) (s .opened))) _ _ (silent 6) p)
 
-  pub replied-command : Listed (answered s f area)
-  unfolding answered judged routed
+  pub replied-command : Listed (reaction s f area)
+  unfolding reaction judged routed
   replied-command = go (headerOfFrame f) (eqb (f .command) 0xF9) refl refl
     where
-      go : (h : Header) (b : Bool) → headerOfFrame f ≡ h → eqb (f .command) 0xF9 ≡ b → Listed (answered s f area)
-      go Unlisted b eh e9 = rw eh (refused (unchanged 2 s) (silent 2))
-      go Wrong b eh e9 = rw eh (refused (unchanged 3 s) (silent 3))
-      go Right true eh e9 = rw (eh, e9) (refused (unchanged 0 s) (silent 0))
+      go : (h : Header) (b : Bool) → headerOfFrame f ≡ h → eqb (f .command) 0xF9 ≡ b → Listed (reaction s f area)
+      go Unlisted b eh e9 = rw eh (refused (unwritten (unchanged 2 s) area) (silent 2))
+      go Wrong b eh e9 = rw eh (refused (unwritten (unchanged 3 s) area) (silent 3))
+      go Right true eh e9 = rw (eh, e9) (refused (unwritten (unchanged 0 s) area) (silent 0))
       go Right false eh e9 = λ _. has-reply f eh e9

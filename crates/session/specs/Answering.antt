@@ -6,7 +6,7 @@ use Prim.Native.Nat.{ℕ}
 use lib.Dec.{ltb, eqb}
 use lib.ListN.{length, getD}
 use Rattle.frames.specs.declared.finished.FinishedFrame.{FinishedFrame}
-use Rattle.frames.specs.Finished.{zeros}
+use Rattle.sequences.specs.Padding.{zeros}
 use Rattle.commands.specs.declared.table.Header.{Header}
 use Rattle.commands.specs.declared.table.Header.the-variants.{Unlisted, Wrong, Right}
 use Rattle.commands.specs.Table.{headerOf}
@@ -15,14 +15,15 @@ use Rattle.commands.specs.Replies.{maxReply}
 use Rattle.transfer.specs.declared.board.Board.{Board}
 use Rattle.transfer.specs.declared.state.Transfer.{Transfer}
 use Rattle.transfer.specs.declared.state.Step.{Step}
+use Rattle.transfer.specs.Transfers.{Effect, unwritten}
 use Rattle.transfer.specs.FA.{answerFA}
 use Rattle.transfer.specs.FB.{answerFB}
 use Rattle.transfer.specs.FC.{answerFC}
-use Rattle.transfer.specs.FD.{answerFD, areaFD}
+use Rattle.transfer.specs.FD.{effectFD}
 use Rattle.transfer.specs.FE.{answerFE}
 use Rattle.session.specs.declared.session.Session.{Session}
 use Rattle.session.specs.declared.answer.Answer.{Answer}
-use Rattle.session.specs.Outcomes.{isAnswered, unlistedCommand, wrongHeader, unlistedChannel, otherArea, isUnlawful, wrongPhase, checkRuns}
+use Rattle.commands.specs.Outcomes.{accepted, unlistedCommand, wrongHeader, unlistedChannel, otherArea, rulesBroken, wrongPhase, checkRuns}
 use Rattle.session.specs.Boards.{pastBoard, placeOf}
 use Rattle.session.specs.Lawful.{unlawful}
 
@@ -34,7 +35,7 @@ unchanged outcome s = record { outcome = outcome; replies = false; session = s; 
 abbrev pub stepped : Session → Step → Answer
 stepped s x =
     record {
-      outcome = cond (x .answered) isAnswered wrongPhase;
+      outcome = cond (x .answered) accepted wrongPhase;
       replies = x .replies;
       session = record { boards = s .boards; count = s .count; opened = s .opened; transfer = x .transfer };
       reply = x .reply;
@@ -44,33 +45,28 @@ stepped s x =
 abbrev pub placeFor : Session → FinishedFrame → ℕ
 placeFor s f = placeOf (s .boards) (s .count) (channelOf (f .bytes))
 
--- FA to FE
-unfoldable pub stepOf : Transfer → FinishedFrame → Board → List ℕ → Step
-stepOf t f b area =
-    cond (eqb (f .command) 0xFA) (answerFA t b (requestFA (f .bytes)))
-    (cond (eqb (f .command) 0xFB) (answerFB t b (requestFB (f .bytes)) area)
-    (cond (eqb (f .command) 0xFC) (answerFC t (requestFC (f .bytes)))
-    (cond (eqb (f .command) 0xFD) (answerFD t (requestFD (f .bytes)) (packetOf (f .length) (f .bytes)) area)
-    (answerFE t (channelOf (f .bytes))))))
+-- FA to FE; only FD writes into the area
+unfoldable pub effectOf : Transfer → FinishedFrame → Board → List ℕ → Effect Step
+effectOf t f b area =
+    cond (eqb (f .command) 0xFA) (unwritten (answerFA t b (requestFA (f .bytes))) area)
+    (cond (eqb (f .command) 0xFB) (unwritten (answerFB t b (requestFB (f .bytes)) area) area)
+    (cond (eqb (f .command) 0xFC) (unwritten (answerFC t (requestFC (f .bytes))) area)
+    (cond (eqb (f .command) 0xFD) (effectFD t (requestFD (f .bytes)) (packetOf (f .length) (f .bytes)) area)
+    (unwritten (answerFE t (channelOf (f .bytes))) area))))
 
--- only FD writes into the area
-unfoldable pub areaOf : Transfer → FinishedFrame → List ℕ → List ℕ
-areaOf t f area = cond (eqb (f .command) 0xFD) (areaFD t (requestFD (f .bytes)) (packetOf (f .length) (f .bytes)) area) area
+-- the transfer's part in what a frame does
+abbrev pub within : Session → Effect Step → Effect Answer
+within s x = record { gives = stepped s (x .gives); area = x .area }
 
 -- "F9: noted, no reply, nothing changes"; outcome 4 for a channel that is not in the list; "12 after 4"
-unfoldable pub routed : Session → FinishedFrame → List ℕ → Answer
+unfoldable pub routed : Session → FinishedFrame → List ℕ → Effect Answer
 routed s f area =
-    cond (eqb (f .command) 0xF9) (unchanged isAnswered s)
+    cond (eqb (f .command) 0xF9) (unwritten (unchanged accepted s) area)
     (cond (ltb (placeFor s f) (s .count))
     (cond (s .transfer .check .running)
-    (unchanged checkRuns s)
-    (stepped s (stepOf (s .transfer) f (getD (s .boards) (placeFor s f) pastBoard) area)))
-    (unchanged unlistedChannel s))
-
-unfoldable pub routedArea : Session → FinishedFrame → List ℕ → List ℕ
-routedArea s f area =
-    cond (eqb (f .command) 0xF9) area
-    (cond (ltb (placeFor s f) (s .count)) (cond (s .transfer .check .running) area (areaOf (s .transfer) f area)) area)
+    (unwritten (unchanged checkRuns s) area)
+    (within s (effectOf (s .transfer) f (getD (s .boards) (placeFor s f) pastBoard) area)))
+    (unwritten (unchanged unlistedChannel s) area))
 
 -- outcomes 2 and 3
 abbrev pub byHeader : {A : Type 0} → Header → A → A → A → A
@@ -81,15 +77,19 @@ byHeader Right unlisted wrong right = right
 abbrev pub headerOfFrame : FinishedFrame → Header
 headerOfFrame f = headerOf (f .version) (f .command) (f .length)
 
-unfoldable pub judged : Session → FinishedFrame → List ℕ → Answer
-judged s f area = byHeader (headerOfFrame f) (unchanged unlistedCommand s) (unchanged wrongHeader s) (routed s f area)
+unfoldable pub judged : Session → FinishedFrame → List ℕ → Effect Answer
+judged s f area =
+    byHeader (headerOfFrame f) (unwritten (unchanged unlistedCommand s) area) (unwritten (unchanged wrongHeader s) area) (routed s f area)
 
-unfoldable pub judgedArea : Session → FinishedFrame → List ℕ → List ℕ
-judgedArea s f area = byHeader (headerOfFrame f) area area (routedArea s f area)
+-- what a finished frame does: "9, 6", then the frame
+unfoldable pub reaction : Session → FinishedFrame → List ℕ → Effect Answer
+reaction s f area =
+    cond (unlawful s) (unwritten (unchanged rulesBroken s) area)
+    (cond (not (eqb (length area) (s .opened))) (unwritten (unchanged otherArea s) area) (judged s f area))
 
--- the answer to a finished frame: "9, 6", then the frame
-unfoldable pub answered : Session → FinishedFrame → List ℕ → Answer
-answered s f area = cond (unlawful s) (unchanged isUnlawful s) (cond (not (eqb (length area) (s .opened))) (unchanged otherArea s) (judged s f area))
+-- the answer to it, and the area after it
+abbrev pub answered : Session → FinishedFrame → List ℕ → Answer
+answered s f area = reaction s f area .gives
 
-unfoldable pub areaAfter : Session → FinishedFrame → List ℕ → List ℕ
-areaAfter s f area = cond (unlawful s) area (cond (not (eqb (length area) (s .opened))) area (judgedArea s f area))
+abbrev pub areaAfter : Session → FinishedFrame → List ℕ → List ℕ
+areaAfter s f area = reaction s f area .area

@@ -5,8 +5,8 @@ use mathlib.Core.List.{List, [], _++_}
 use Prim.Native.Nat.{ℕ, _-_}
 use lib.Dec.{ltb, eqb}
 use lib.ListN.{getD, take, replicate}
-use Rattle.frames.specs.Finished.{zeros}
-use Rattle.commands.specs.Search.{find}
+use Rattle.sequences.specs.Padding.{zeros}
+use Rattle.sequences.specs.Search.{find}
 use Rattle.transfer.specs.declared.board.Board.{Board}
 
 abbrev pub maxBoards : ℕ

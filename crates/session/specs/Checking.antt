@@ -6,27 +6,27 @@ use mathlib.Core.List.{List}
 use Prim.Native.Nat.{ℕ}
 use lib.Dec.{eqb}
 use lib.ListN.{length}
-use Rattle.frames.specs.Finished.{zeros}
+use Rattle.sequences.specs.Padding.{zeros}
 use Rattle.commands.specs.Replies.{maxReply}
-use Rattle.transfer.specs.declared.check.Verdict.{Verdict}
-use Rattle.transfer.specs.declared.check.Verdict.the-variants.{Unfinished, Right, Wrong}
-use Rattle.transfer.specs.declared.check.Portion.{Portion}
-use Rattle.transfer.specs.Portions.{portionOf}
+use Rattle.image.specs.declared.check.Verdict.{Verdict}
+use Rattle.image.specs.declared.check.Verdict.the-variants.{Unfinished, Right, Wrong}
+use Rattle.transfer.specs.declared.check.CheckStep.{CheckStep}
+use Rattle.transfer.specs.Portions.{checkStep}
 use Rattle.session.specs.declared.session.Session.{Session}
 use Rattle.session.specs.declared.check.Checked.{Checked}
-use Rattle.session.specs.Outcomes.{isAnswered, otherArea, isUnlawful, noCheckRuns, isUnfinished}
+use Rattle.commands.specs.Outcomes.{accepted, otherArea, rulesBroken, noCheckRuns, unfinished}
 use Rattle.session.specs.Lawful.{unlawful}
 
 abbrev pub outcomeOf : Verdict → ℕ
-outcomeOf Unfinished = isUnfinished
-outcomeOf Right = isAnswered
-outcomeOf Wrong = isAnswered
+outcomeOf Unfinished = unfinished
+outcomeOf Right = accepted
+outcomeOf Wrong = accepted
 
 -- refused: "count 0, unfinished, nothing changed"
 abbrev pub refusedCheck : ℕ → Session → Checked
 refusedCheck outcome s = record { outcome = outcome; count = 0; verdict = Unfinished; replies = false; session = s; reply = zeros maxReply }
 
-abbrev pub checkedBy : Session → Portion → Checked
+abbrev pub checkedBy : Session → CheckStep → Checked
 checkedBy s p =
     record {
       outcome = outcomeOf (p .verdict);
@@ -39,6 +39,6 @@ checkedBy s p =
 
 unfoldable pub checked : Session → ℕ → List ℕ → Checked
 checked s most area =
-    cond (unlawful s) (refusedCheck isUnlawful s)
+    cond (unlawful s) (refusedCheck rulesBroken s)
     (cond (not (eqb (length area) (s .opened))) (refusedCheck otherArea s)
-    (cond (s .transfer .check .running) (checkedBy s (portionOf (s .transfer) most area)) (refusedCheck noCheckRuns s)))
+    (cond (s .transfer .check .running) (checkedBy s (checkStep (s .transfer) most area)) (refusedCheck noCheckRuns s)))

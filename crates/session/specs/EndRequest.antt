@@ -10,14 +10,14 @@ use Prim.Native.Nat.{ℕ}
 use lib.ListN.{length, take}
 use Rattle.crc.specs.Crc.{checksum, crc32}
 use Rattle.frames.specs.declared.finished.FinishedFrame.{FinishedFrame}
-use Rattle.frames.specs.Finished.{padded}
+use Rattle.sequences.specs.Padding.{padded}
 use Rattle.commands.specs.Requests.{channelOf}
 use Rattle.commands.specs.Replies.{maxReply, replyState}
 use Rattle.transfer.specs.declared.state.Transfer.{Transfer}
 use Rattle.transfer.specs.Phases.{receivingOrDone}
 use Rattle.session.specs.declared.session.Session.{Session}
 use Rattle.session.specs.declared.answer.Answer.{Answer}
-use Rattle.session.specs.Outcomes.{isAnswered}
+use Rattle.commands.specs.Outcomes.{accepted}
 use Rattle.session.specs.Lawful.{unlawful}
 use Rattle.session.specs.OneGo.{inOneGo}
 
@@ -30,14 +30,14 @@ pub record IsEndRequest (f : FinishedFrame) (channel : ℕ) : Type 0 where
 
 -- the demand's four conditions
 pub record Complete (t : Transfer) (channel : ℕ) (area : List ℕ) : Type 0 where
-  pub open-or-accepted : receivingOrDone (t .phase) ≡ true
-  pub here : channel ≡ t .channel
-  pub all-stored : t .stored ≡ t .image .announced
+  pub open-or-accepted : receivingOrDone (t .leg .phase) ≡ true
+  pub here : channel ≡ t .leg .channel
+  pub all-stored : t .progress .stored ≡ t .image .announced
   pub right : checksum crc32 (take (t .image .announced) area) ≡ t .image .crc
 
 -- an answer with the reply FE, that channel, 00
 pub record SuccessIn (channel : ℕ) (a : Answer) : Type 0 where
-  pub answered : a .outcome ≡ isAnswered
+  pub answered : a .outcome ≡ accepted
   pub replies : a .replies ≡ true
   pub reply : a .reply ≡ padded maxReply (replyState channel 0)
 

@@ -8,28 +8,27 @@ use mathlib.Core.Bool.{Bool, true, false, cond, not, _||_}
 use mathlib.Core.List.{List}
 use Prim.Native.Nat.{ℕ, _≤_, _<_}
 use lib.Dec.{ltb, eqb}
-use Rattle.commands.specs.Limits.{minPacket, maxPacket, maxArea}
+use Rattle.commands.specs.Limits.{minPacket, maxPacket, maxArea, maxNext}
 use Rattle.transfer.specs.declared.board.Board.{Board}
 use Rattle.transfer.specs.declared.state.Transfer.{Transfer}
 use Rattle.transfer.specs.Phases.{idle, hasImage, receivingOrDone}
-use Rattle.transfer.specs.Transfers.{maxNext}
 use Rattle.session.specs.declared.session.Session.{Session}
 use Rattle.session.specs.Boards.{placeOf, badList}
 use Rattle.session.specs.Opening.{badArea}
 
 -- "stored is above announced or announced above the opened length; next number is above 65,536"
 abbrev pub badLengths : Transfer → ℕ → Bool
-badLengths t opened = ltb (t .image .announced) (t .stored) || (ltb opened (t .image .announced) || ltb maxNext (t .next))
+badLengths t opened = ltb (t .image .announced) (t .progress .stored) || (ltb opened (t .image .announced) || ltb maxNext (t .leg .next))
 
 -- the last packet's length "is above 512 or above stored"
 abbrev pub badLast : Transfer → Bool
-badLast t = ltb maxPacket (t .last) || ltb (t .stored) (t .last)
+badLast t = ltb maxPacket (t .progress .last) || ltb (t .progress .stored) (t .progress .last)
 
 -- "a running check has read the announced length or more, or runs though stored is not announced or the phase is not receiving or done"
 abbrev pub badCheck : Transfer → Bool
 badCheck t =
     cond (t .check .running)
-    (not (ltb (t .check .read) (t .image .announced)) || (not (eqb (t .stored) (t .image .announced)) || not (receivingOrDone (t .phase))))
+    (not (ltb (t .check .read) (t .image .announced)) || (not (eqb (t .progress .stored) (t .image .announced)) || not (receivingOrDone (t .leg .phase))))
     false
 
 abbrev pub badSize : ℕ → Bool
@@ -38,8 +37,8 @@ badSize agreed = ltb agreed minPacket || ltb maxPacket agreed
 -- "unless idle, the session's channel is not listed or the agreed size is not 16 to 512; or, in told, receiving or done, announced is 0"
 abbrev pub badSessionFields : Transfer → List Board → ℕ → Bool
 badSessionFields t bs n =
-    cond (idle (t .phase)) false
-    (not (ltb (placeOf bs n (t .channel)) n) || (badSize (t .agreed) || cond (hasImage (t .phase)) (eqb (t .image .announced) 0) false))
+    cond (idle (t .leg .phase)) false
+    (not (ltb (placeOf bs n (t .leg .channel)) n) || (badSize (t .leg .agreed) || cond (hasImage (t .leg .phase)) (eqb (t .image .announced) 0) false))
 
 unfoldable pub unlawful : Session → Bool
 unlawful s =
@@ -51,15 +50,15 @@ pub record Lawful (s : Session) : Type 0 where
   pub list : badList (s .boards) (s .count) ≡ false
   pub some-area : 1 ≤ s .opened
   pub small-area : s .opened ≤ maxArea
-  pub stored : s .transfer .stored ≤ s .transfer .image .announced
+  pub stored : s .transfer .progress .stored ≤ s .transfer .image .announced
   pub announced : s .transfer .image .announced ≤ s .opened
-  pub number : s .transfer .next ≤ maxNext
-  pub most-last : s .transfer .last ≤ maxPacket
-  pub last-stored : s .transfer .last ≤ s .transfer .stored
+  pub number : s .transfer .leg .next ≤ maxNext
+  pub most-last : s .transfer .progress .last ≤ maxPacket
+  pub last-stored : s .transfer .progress .last ≤ s .transfer .progress .stored
   pub check-unread : s .transfer .check .running ≡ true → s .transfer .check .read < s .transfer .image .announced
-  pub check-stored : s .transfer .check .running ≡ true → s .transfer .stored ≡ s .transfer .image .announced
-  pub check-phase : s .transfer .check .running ≡ true → receivingOrDone (s .transfer .phase) ≡ true
-  pub listed : idle (s .transfer .phase) ≡ false → placeOf (s .boards) (s .count) (s .transfer .channel) < s .count
-  pub least-size : idle (s .transfer .phase) ≡ false → minPacket ≤ s .transfer .agreed
-  pub most-size : idle (s .transfer .phase) ≡ false → s .transfer .agreed ≤ maxPacket
-  pub some-image : hasImage (s .transfer .phase) ≡ true → 0 < s .transfer .image .announced
+  pub check-stored : s .transfer .check .running ≡ true → s .transfer .progress .stored ≡ s .transfer .image .announced
+  pub check-phase : s .transfer .check .running ≡ true → receivingOrDone (s .transfer .leg .phase) ≡ true
+  pub listed : idle (s .transfer .leg .phase) ≡ false → placeOf (s .boards) (s .count) (s .transfer .leg .channel) < s .count
+  pub least-size : idle (s .transfer .leg .phase) ≡ false → minPacket ≤ s .transfer .leg .agreed
+  pub most-size : idle (s .transfer .leg .phase) ≡ false → s .transfer .leg .agreed ≤ maxPacket
+  pub some-image : hasImage (s .transfer .leg .phase) ≡ true → 0 < s .transfer .image .announced

@@ -5,7 +5,8 @@ use mathlib.Core.Bool.{cond}
 use mathlib.Core.List.{List}
 use Prim.Native.Nat.{ℕ}
 use Rattle.frames.specs.declared.finished.FinishedFrame.{FinishedFrame}
-use Rattle.transfer.specs.FE.{rightCrc, endedFE}
+use Rattle.transfer.specs.FE.{endedFE}
+use Rattle.transfer.specs.Portions.{rightCrc}
 use Rattle.session.specs.declared.session.Session.{Session}
 use Rattle.session.specs.declared.answer.Answer.{Answer}
 use Rattle.session.specs.Answering.{stepped, answered}

@@ -9,7 +9,7 @@ use Rattle.transfer.specs.declared.board.Board.{Board}
 use Rattle.transfer.specs.Transfers.{noTransfer}
 use Rattle.session.specs.declared.session.Session.{Session}
 use Rattle.session.specs.declared.session.Opening.{Opening}
-use Rattle.session.specs.Outcomes.{isAnswered, badAreaLength, badBoards}
+use Rattle.commands.specs.Outcomes.{accepted, badAreaLength, badBoards}
 use Rattle.session.specs.Boards.{maxBoards, noBoard, badList, listOf}
 
 -- "the area's length, 1 to 1,048,576"
@@ -30,4 +30,4 @@ unfolding freshSession
 opened bs n area =
     cond (badList bs n) (record { outcome = badBoards; session = noSession })
     (cond (badArea area) (record { outcome = badAreaLength; session = noSession })
-    (record { outcome = isAnswered; session = freshSession bs n area }))
+    (record { outcome = accepted; session = freshSession bs n area }))

@@ -7,8 +7,7 @@ use mathlib.Core.List.{List, [], _∷_}
 use Prim.Native.Nat.{ℕ, _+_}
 use lib.ListN.{length}
 use Rattle.frames.specs.declared.finished.FinishedFrame.{FinishedFrame}
-use Rattle.frames.specs.Frame.{Bytes}
-use Rattle.frames.specs.Finished.{padded}
+use Rattle.sequences.specs.Padding.{padded}
 use Rattle.commands.specs.declared.request.RequestFD.{RequestFD}
 use Rattle.commands.specs.declared.table.Header.the-variants.{Right}
 use Rattle.commands.specs.Requests.{requestFD, packetOf}
@@ -16,7 +15,7 @@ use Rattle.commands.specs.Replies.{maxReply, replyState}
 use Rattle.transfer.specs.FD.{takes}
 use Rattle.session.specs.declared.session.Session.{Session}
 use Rattle.session.specs.declared.answer.Answer.{Answer}
-use Rattle.session.specs.Outcomes.{isAnswered}
+use Rattle.commands.specs.Outcomes.{accepted}
 use Rattle.session.specs.Lawful.{unlawful}
 use Rattle.session.specs.Answering.{headerOfFrame, answered, areaAfter}
 
@@ -28,22 +27,22 @@ abbrev pub packetIn : FinishedFrame → List ℕ
 packetIn f = packetOf (f .length) (f .bytes)
 
 -- what a frame comes to, and leaves
-pub record Point : Type 0 where
+pub record SessionAndArea : Type 0 where
   pub session : Session
   pub area : List ℕ
 
-abbrev pub answerAt : Point → FinishedFrame → Answer
+abbrev pub answerAt : SessionAndArea → FinishedFrame → Answer
 answerAt x f = answered (x .session) f (x .area)
 
-abbrev pub after : Point → FinishedFrame → Point
-after x f = record { session = answerAt x f .session; area = areaAfter (x .session) f (x .area) }
+abbrev pub thenFrame : SessionAndArea → FinishedFrame → SessionAndArea
+thenFrame x f = record { session = answerAt x f .session; area = areaAfter (x .session) f (x .area) }
 
-abbrev pub afterAll : Point → List FinishedFrame → Point
-afterAll x [] = x
-afterAll x (f ∷ fs) = afterAll (after x f) fs
+abbrev pub thenFrames : SessionAndArea → List FinishedFrame → SessionAndArea
+thenFrames x [] = x
+thenFrames x (f ∷ fs) = thenFrames (thenFrame x f) fs
 
 -- the frame is an FD whose packet is taken here
-pub record TakenHere (x : Point) (f : FinishedFrame) : Type 0 where
+pub record TakenHere (x : SessionAndArea) (f : FinishedFrame) : Type 0 where
   pub command : f .command ≡ 0xFD
   pub header : headerOfFrame f ≡ Right
   pub taken : takes (x .session .transfer) (fieldsOf f) (packetIn f) (x .area) ≡ true
@@ -55,18 +54,18 @@ OtherPackets number (f ∷ fs) = (f .command ≡ 0xFD) × ((fieldsOf f .number �
 
 -- outcome 0, and the data of a reply to an FD with this state
 abbrev pub AnswersWith : Answer → RequestFD → ℕ → Type 0
-AnswersWith a r state = (a .outcome ≡ isAnswered) × (a .reply ≡ padded maxReply (replyState (r .channel) state))
+AnswersWith a r state = (a .outcome ≡ accepted) × (a .reply ≡ padded maxReply (replyState (r .channel) state))
 
 -- what holds once frame f was taken at x and the frames fs came after it
-pub record FrameRepeated (x : Point) (f : FinishedFrame) (fs : List FinishedFrame) : Type 0 where
-  pub unmoved : afterAll (after x f) fs ≡ after x f
-  pub answered-00 : AnswersWith (answerAt (afterAll (after x f) fs) f) (fieldsOf f) 0
-  pub replies : answerAt (afterAll (after x f) fs) f .replies ≡ true
-  pub unchanged : after (afterAll (after x f) fs) f ≡ after x f
+pub record FrameRepeated (x : SessionAndArea) (f : FinishedFrame) (fs : List FinishedFrame) : Type 0 where
+  pub unmoved : thenFrames (thenFrame x f) fs ≡ thenFrame x f
+  pub answered-00 : AnswersWith (answerAt (thenFrames (thenFrame x f) fs) f) (fieldsOf f) 0
+  pub replies : answerAt (thenFrames (thenFrame x f) fs) f .replies ≡ true
+  pub unchanged : thenFrame (thenFrames (thenFrame x f) fs) f ≡ thenFrame x f
   pub other-bytes : (g : FinishedFrame) → g .command ≡ 0xFD → (fieldsOf g .number ≡ fieldsOf f .number + 1 → ⊥) → (packetIn g ≡ packetIn f → ⊥)
-      → AnswersWith (answerAt (afterAll (after x f) fs) g) (fieldsOf g) 0 → ⊥
+      → AnswersWith (answerAt (thenFrames (thenFrame x f) fs) g) (fieldsOf g) 0 → ⊥
 
 abbrev pub RepeatedFrame : Type 0
 RepeatedFrame =
-    (x : Point) (f : FinishedFrame) (fs : List FinishedFrame) → unlawful (x .session) ≡ false → length (x .area) ≡ x .session .opened → Bytes (f .bytes)
+    (x : SessionAndArea) (f : FinishedFrame) (fs : List FinishedFrame) → unlawful (x .session) ≡ false → length (x .area) ≡ x .session .opened
     → TakenHere x f → OtherPackets (fieldsOf f .number + 1) fs → FrameRepeated x f fs

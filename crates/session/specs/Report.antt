@@ -6,7 +6,7 @@ use mathlib.Core.List.{List, [], _∷_, _++_}
 use Prim.Native.Nat.{ℕ, zero, suc, _+_, _*_}
 use lib.Dec.{ltb}
 use lib.ListN.{getD}
-use Rattle.frames.specs.Frame.{Frame}
+use Rattle.fronts.specs.Frame.{Frame}
 use Rattle.frames.specs.Buffer.{writtenSize, writtenRoom}
 use Rattle.commands.specs.Replies.{parts}
 use Rattle.transfer.specs.declared.board.Board.{Board}

@@ -1,8 +1,9 @@
 // What a finished frame is answered.
 use crate::list;
-use crate::outcome;
 use crate::session::Session;
+use commands::outcome;
 use commands::reply;
+use commands::reply::MAX_REPLY;
 use commands::request;
 use commands::table;
 use commands::table::Header;
@@ -14,26 +15,25 @@ ghost use mathlib.Core.Path.{_≡_};
 ghost use mathlib.Core.Bool.{false};
 ghost use Prim.Native.Nat.{_≤_, _<_};
 ghost use lib.ListN.{length};
-ghost use Rattle.transfer.specs.Transfers.{Sound};
 ghost use Rattle.session.specs.Boards.{maxBoards};
 ghost use Rattle.session.specs.Lawful.{unlawful};
-ghost use Rattle.session.specs.Answering.{unchanged, stepped, placeFor, stepOf, areaOf, routed, routedArea, judged, judgedArea, answered, areaAfter};
+ghost use Rattle.session.specs.Answering.{unchanged, stepped, placeFor, effectOf, routed, judged, reaction};
 
 // What a frame makes of a session. Only with outcome 0 can there be a reply; without one its data is zeros.
 pub struct Answer {
     pub outcome: u8,
     pub replies: bool,
     pub session: Session,
-    pub reply: [u8; 26],
+    pub reply: [u8; MAX_REPLY],
 }
 
 impl Session {
     // The answer to a finished frame. An unlawful session, or an area of another length than the opened one, is refused.
     pub fn answer(self, f: FinishedFrame, area: &mut [u8]) -> Answer
-        ensures { λ r. ⌜ (r ≡ answered self f (now (area .entry))) × (now (area .exit) ≡ areaAfter self f (now (area .entry))) ⌝ }
+        ensures { λ r. ⌜ (r ≡ reaction self f (now (area .entry)) .gives) × (now (area .exit) ≡ reaction self f (now (area .entry)) .area) ⌝ }
     {
         if self.unlawful() {
-            return Answer::unchanged(outcome::UNLAWFUL, self);
+            return Answer::unchanged(outcome::RULES_BROKEN, self);
         }
         if area.len() != self.opened {
             return Answer::unchanged(outcome::OTHER_AREA, self);
@@ -44,8 +44,7 @@ impl Session {
     // Outcomes 2 and 3, by the command table.
     fn judge(self, f: FinishedFrame, area: &mut [u8]) -> Answer
         requires { ⌜ unlawful self ≡ false ⌝ }
-        requires { ⌜ length (now area) ≡ self .opened ⌝ }
-        ensures { λ r. ⌜ (r ≡ judged self f (now (area .entry))) × (now (area .exit) ≡ judgedArea self f (now (area .entry))) ⌝ }
+        ensures { λ r. ⌜ (r ≡ judged self f (now (area .entry)) .gives) × (now (area .exit) ≡ judged self f (now (area .entry)) .area) ⌝ }
     {
         let header = table::header_of(f.version, f.command, f.length);
         match header {
@@ -58,11 +57,10 @@ impl Session {
     // F9 is noted. Any other frame goes to the board of its channel: outcome 4 where there is none, then 12 while an end check runs.
     fn route(self, f: FinishedFrame, area: &mut [u8]) -> Answer
         requires { ⌜ unlawful self ≡ false ⌝ }
-        requires { ⌜ length (now area) ≡ self .opened ⌝ }
-        ensures { λ r. ⌜ (r ≡ routed self f (now (area .entry))) × (now (area .exit) ≡ routedArea self f (now (area .entry))) ⌝ }
+        ensures { λ r. ⌜ (r ≡ routed self f (now (area .entry)) .gives) × (now (area .exit) ≡ routed self f (now (area .entry)) .area) ⌝ }
     {
         if f.command == table::F9 {
-            return Answer::unchanged(outcome::ANSWERED, self);
+            return Answer::unchanged(outcome::ACCEPTED, self);
         }
         let i = self.place_for(f);
         let transfer = self.transfer;
@@ -111,7 +109,7 @@ impl Answer {
         let next = session.with_transfer(step.transfer);
         if step.answered {
             return Answer {
-                outcome: outcome::ANSWERED,
+                outcome: outcome::ACCEPTED,
                 replies: step.replies,
                 session: next,
                 reply,
@@ -128,8 +126,7 @@ impl Answer {
 
 // The transfer's answer to a frame of the table for its board.
 fn respond(t: Transfer, f: FinishedFrame, board: Board, area: &mut [u8]) -> Step
-    requires { ⌜ Sound t (length (now area)) ⌝ }
-    ensures { λ r. ⌜ (r ≡ stepOf t f board (now (area .entry))) × (now (area .exit) ≡ areaOf t f (now (area .entry))) ⌝ }
+    ensures { λ r. ⌜ (r ≡ effectOf t f board (now (area .entry)) .gives) × (now (area .exit) ≡ effectOf t f board (now (area .entry)) .area) ⌝ }
 {
     let command = f.command;
     let d = f.bytes;

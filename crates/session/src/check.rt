@@ -1,9 +1,10 @@
 // A portion of the end check.
-use crate::outcome;
 use crate::session::Session;
+use commands::outcome;
 use commands::reply;
-use transfer::check::Portion;
-use transfer::check::Verdict;
+use commands::reply::MAX_REPLY;
+use image::check::Verdict;
+use transfer::check::CheckStep;
 ghost use mathlib.Core.Path.{_≡_};
 ghost use Rattle.session.specs.Checking.{outcomeOf, refusedCheck, checkedBy, checked};
 
@@ -14,7 +15,7 @@ pub struct Checked {
     pub verdict: Verdict,
     pub replies: bool,
     pub session: Session,
-    pub reply: [u8; 26],
+    pub reply: [u8; MAX_REPLY],
 }
 
 impl Session {
@@ -24,7 +25,7 @@ impl Session {
         ensures { λ r. ⌜ r ≡ checked self most (now (area .entry)) ⌝ }
     {
         if self.unlawful() {
-            return Checked::refused(outcome::UNLAWFUL, self);
+            return Checked::refused(outcome::RULES_BROKEN, self);
         }
         if area.len() != self.opened {
             return Checked::refused(outcome::OTHER_AREA, self);
@@ -53,7 +54,7 @@ impl Checked {
         }
     }
 
-    fn portion(session: Session, portion: Portion) -> Checked
+    fn portion(session: Session, portion: CheckStep) -> Checked
         ensures { λ r. ⌜ r ≡ checkedBy session «portion» ⌝ }
     {
         let step = portion.step;
@@ -76,7 +77,7 @@ fn outcome_of(verdict: Verdict) -> u8
 {
     match verdict {
         Verdict::Unfinished => outcome::UNFINISHED,
-        Verdict::Right => outcome::ANSWERED,
-        Verdict::Wrong => outcome::ANSWERED,
+        Verdict::Right => outcome::ACCEPTED,
+        Verdict::Wrong => outcome::ACCEPTED,
     }
 }

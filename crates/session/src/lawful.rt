@@ -2,6 +2,7 @@
 use crate::list;
 use crate::session::Session;
 use crate::session::bad_area;
+use commands::limits::MAX_NEXT;
 use commands::limits::MAX_PACKET;
 use commands::limits::MIN_PACKET;
 use transfer::board::Board;
@@ -13,9 +14,6 @@ ghost use mathlib.Core.Path.{_≡_};
 ghost use Prim.Native.Nat.{_≤_};
 ghost use Rattle.session.specs.Boards.{maxBoards};
 ghost use Rattle.session.specs.Lawful.{badLengths, badLast, badCheck, badSize, badSessionFields, unlawful};
-
-// After number 65,535 no packet is next.
-const MAX_NEXT: usize = 65536;
 
 impl Session {
     pub fn unlawful(self) -> bool
@@ -46,23 +44,23 @@ fn bad_lengths(t: Transfer, opened: usize) -> bool
     ensures { λ r. ⌜ r ≡ badLengths t opened ⌝ }
 {
     let announced = t.image.announced;
-    if announced < t.stored {
+    if announced < t.progress.stored {
         return true;
     }
     if opened < announced {
         return true;
     }
-    MAX_NEXT < t.next
+    MAX_NEXT < t.leg.next
 }
 
 // The last packet's length.
 fn bad_last(t: Transfer) -> bool
     ensures { λ r. ⌜ r ≡ badLast t ⌝ }
 {
-    if MAX_PACKET < t.last {
+    if MAX_PACKET < t.progress.last {
         return true;
     }
-    t.stored < t.last
+    t.progress.stored < t.progress.last
 }
 
 // A running end check.
@@ -70,12 +68,13 @@ fn bad_check(t: Transfer) -> bool
     ensures { λ r. ⌜ r ≡ badCheck t ⌝ }
 {
     let check = t.check;
-    let phase = t.phase;
+    let leg = t.leg;
+    let phase = leg.phase;
     if check.running {
         if t.image.announced <= check.read {
             return true;
         }
-        if t.stored != t.image.announced {
+        if t.progress.stored != t.image.announced {
             return true;
         }
         if is_receiving_or_done(phase) {
@@ -90,14 +89,15 @@ fn bad_session_fields(t: Transfer, boards: [Board; list::MAX_BOARDS], count: usi
     requires { ⌜ count ≤ maxBoards ⌝ }
     ensures { λ r. ⌜ r ≡ badSessionFields t boards count ⌝ }
 {
-    let phase = t.phase;
+    let leg = t.leg;
+    let phase = leg.phase;
     if is_idle(phase) {
         return false;
     }
-    if count <= list::place_of(boards, count, t.channel) {
+    if count <= list::place_of(boards, count, leg.channel) {
         return true;
     }
-    if bad_size(t.agreed) {
+    if bad_size(leg.agreed) {
         return true;
     }
     if has_image(phase) {

@@ -1,6 +1,5 @@
 // The session: the board list, and what a finished frame is answered.
 //
-// - `outcome`: the outcome numbers, each in one place.
 // - `list`: the rules of the board list, and which board a channel is.
 // - `session::Session`: the list, the opened length and the transfer, by value. `open` makes one; `unlawful` is outcome 9's sentence for
 //   what a session holds; `answer` takes a finished frame and hands back the next session; `portion` goes on with a running end check;
@@ -11,6 +10,5 @@ pub mod answer;
 pub mod check;
 mod lawful;
 pub mod list;
-pub mod outcome;
 mod report;
 pub mod session;

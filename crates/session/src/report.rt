@@ -3,11 +3,12 @@ use crate::list;
 use crate::session::Session;
 use commands::table;
 use frames::writer;
+use sequences::place;
 use transfer::board::Board;
 ghost use mathlib.Core.Path.{_≡_};
 ghost use Prim.Native.Nat.{_+_, _*_, _≤_};
-ghost use Rattle.frames.specs.Finished.{padded};
-ghost use Rattle.frames.specs.Places.{writtenAt};
+ghost use Rattle.sequences.specs.Padding.{padded};
+ghost use Rattle.sequences.specs.Places.{writtenAt};
 ghost use Rattle.session.specs.Boards.{maxBoards};
 ghost use Rattle.session.specs.Report.{boardBytes, reportBytes, maxReport, ReportWritten};
 
@@ -50,12 +51,11 @@ fn report_data(boards: [Board; list::MAX_BOARDS], count: usize) -> [u8; MAX_REPO
 }
 
 fn with_board(d: [u8; MAX_REPORT], at: usize, board: Board) -> [u8; MAX_REPORT]
-    requires { ⌜ at + 7 ≤ maxReport ⌝ }
     ensures { λ r. ⌜ r ≡ writtenAt d at (boardBytes board) ⌝ }
 {
     let mut next = d;
     let piece = board_bytes(board);
-    bytes::copy(&piece, &mut next[at..]);
+    place::write(&mut next, at, &piece);
     next
 }
 

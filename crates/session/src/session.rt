@@ -1,7 +1,7 @@
 // The session by value, and its opening.
 use crate::list;
-use crate::outcome;
 use commands::limits::MAX_AREA;
+use commands::outcome;
 use transfer::board::Board;
 use transfer::state::Transfer;
 ghost use mathlib.Core.Path.{_≡_};
@@ -47,7 +47,7 @@ impl Session {
             transfer,
         };
         Opening {
-            outcome: outcome::ANSWERED,
+            outcome: outcome::ACCEPTED,
             session,
         }
     }

@@ -7,7 +7,7 @@ use mathlib.Core.List.{List}
 use Prim.Native.Nat.{ℕ, _+_, _≤_}
 use lib.Dec.{ltb}
 use lib.ListN.{length}
-use Rattle.frames.specs.Places.{writtenAt}
+use Rattle.sequences.specs.Places.{writtenAt}
 use Rattle.text.specs.declared.output.Output.{Output}
 use Rattle.text.specs.Decimals.{Decimal}
 

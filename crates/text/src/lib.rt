@@ -1,8 +1,8 @@
-// What the programs write with, and parts of texts.
+// What the programs read words and write lines with.
 //
 // - `output::Output`: texts on their way to standard output, collected in a buffer that the caller lends.
 // - `hex`: bytes in hexadecimal digits.
-// - `part`: the front of some bytes, and what stands behind it.
+// - `number`: the number that decimal digits say.
 pub mod hex;
+pub mod number;
 pub mod output;
-pub mod part;

@@ -1,11 +1,10 @@
 // Texts on their way to standard output. They are collected in a buffer, so that many go out in one write.
-use crate::part::front;
 use libc::STDOUT_FILENO;
+use sequences::part::front;
+use sequences::place;
 ghost use mathlib.Core.Path.{_≡_};
 ghost use mathlib.Core.Bool.{true};
-ghost use Prim.Native.Nat.{_+_, _≤_};
-ghost use lib.ListN.{length};
-ghost use Rattle.frames.specs.Places.{writtenAt};
+ghost use Prim.Native.Nat.{_≤_};
 ghost use Rattle.text.specs.Outputs.{bufferSize, nothing, Flushed, RoomMade, TextAdded, DecimalAdded};
 
 // The length of the buffer: as `io::large_buffer` gives.
@@ -41,7 +40,7 @@ impl Output {
             };
         }
         let output = self.with_room(n, buffer);
-        put(text, buffer, output.waiting);
+        place::write(buffer, output.waiting, text);
         Output {
             waiting: output.waiting + n,
             failed: output.failed,
@@ -89,12 +88,4 @@ fn write(is_failed: bool, text: &[u8]) -> bool
     }
     let is_written = io::write_all(STDOUT_FILENO, text);
     !is_written
-}
-
-// Puts a text into the buffer from `at` on.
-fn put(text: &[u8], buffer: &mut [u8], at: usize)
-    requires { ⌜ at + length (now text) ≤ length (now buffer) ⌝ }
-    ensures { λ _. ⌜ now (buffer .exit) ≡ writtenAt (now (buffer .entry)) at (now (text .entry)) ⌝ }
-{
-    bytes::copy(text, &mut buffer[at..]);
 }

@@ -6,11 +6,13 @@ use Prim.Native.Nat.{ℕ}
 use lib.Dec.{ltb}
 use Rattle.commands.specs.declared.request.RequestFA.{RequestFA}
 use Rattle.commands.specs.Limits.{minPacket, maxPacket}
+use Rattle.commands.specs.States.{granted, deniedFA}
 use Rattle.commands.specs.Replies.{replyFA}
+use Rattle.transfer.specs.declared.phase.Phase.the-variants.{Asked}
 use Rattle.transfer.specs.declared.board.Board.{Board}
 use Rattle.transfer.specs.declared.state.Transfer.{Transfer}
 use Rattle.transfer.specs.declared.state.Step.{Step}
-use Rattle.transfer.specs.Transfers.{asked, replied}
+use Rattle.transfer.specs.Transfers.{withLeg, replied}
 
 abbrev pub refusedFA : Board → RequestFA → Bool
 refusedFA b r = not (b .permit) || ltb (r .len1) minPacket
@@ -19,8 +21,12 @@ refusedFA b r = not (b .permit) || ltb (r .len1) minPacket
 abbrev pub agreedSize : ℕ → ℕ
 agreedSize len1 = cond (ltb len1 maxPacket) len1 maxPacket
 
+-- "phase asked, session's channel this one, agreed size .."
+abbrev pub asked : Transfer → RequestFA → Transfer
+asked t r = withLeg t (record { phase = Asked; channel = r .channel; agreed = agreedSize (r .len1); next = t .leg .next })
+
 unfoldable pub answerFA : Transfer → Board → RequestFA → Step
 answerFA t b r =
     cond (refusedFA b r)
-    (replied t (replyFA (r .channel) 1 (b .soft)))
-    (replied (asked t (r .channel) (agreedSize (r .len1))) (replyFA (r .channel) 0 (b .soft)))
+    (replied t (replyFA (r .channel) deniedFA (b .soft)))
+    (replied (asked t r) (replyFA (r .channel) granted (b .soft)))

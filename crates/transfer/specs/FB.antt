@@ -6,38 +6,41 @@ use mathlib.Core.Bool.{Bool, cond, not, _||_}
 use mathlib.Core.List.{List}
 use Prim.Native.Nat.{ℕ}
 use lib.Dec.{ltb, eqb}
-use lib.ListN.{length, take}
+use lib.ListN.{length}
 use Rattle.crc.specs.Crc.{checksum, crc32}
+use Rattle.image.specs.Progresses.{firstStored}
 use Rattle.commands.specs.declared.request.RequestFB.{RequestFB}
+use Rattle.commands.specs.States.{granted, otherPidFB, oldVersionFB, badLengthFB}
 use Rattle.commands.specs.Replies.{replyFB}
 use Rattle.transfer.specs.declared.phase.Phase.the-variants.{Idle, Told}
 use Rattle.transfer.specs.declared.board.Board.{Board}
 use Rattle.transfer.specs.declared.state.Transfer.{Transfer}
 use Rattle.transfer.specs.declared.state.Step.{Step}
 use Rattle.transfer.specs.Phases.{idle}
-use Rattle.transfer.specs.Identities.{same, newer, identityOf, sameIdentity}
-use Rattle.transfer.specs.Transfers.{withPhase, withProgress, otherChannel, replied, unanswered}
+use Rattle.sequences.specs.Comparing.{same}
+use Rattle.transfer.specs.Identities.{newer, identityOf, sameIdentity}
+use Rattle.transfer.specs.Transfers.{withPhase, replaced, otherChannel, replied, unanswered}
 
 -- the state replied, n being the area's length
 unfoldable pub stateFB : Board → RequestFB → ℕ → ℕ
 stateFB b r n =
-    cond (not (same (r .pid) (b .pid))) 1
-    (cond (not (newer (r .version) (b .soft))) 2
-    (cond (eqb (r .length) 0 || ltb n (r .length)) 3 0))
+    cond (not (same (r .pid) (b .pid))) otherPidFB
+    (cond (not (newer (r .version) (b .soft))) oldVersionFB
+    (cond (eqb (r .length) 0 || ltb n (r .length)) badLengthFB granted))
 
 -- what a granted FB leaves
 unfoldable pub afterFB : Transfer → RequestFB → Transfer
-afterFB t r = cond (sameIdentity (identityOf r) (t .image)) (withPhase t Told) (withProgress t Told (t .next) 0 (identityOf r))
+afterFB t r = cond (sameIdentity (identityOf r) (t .image)) (withPhase t Told) (replaced t Told (identityOf r))
 
 unfoldable pub grantFB : Transfer → RequestFB → List ℕ → Step
 grantFB t r area =
     let next = afterFB t r in
-    replied next (replyFB (r .channel) 0 (next .stored) (checksum crc32 (take (next .stored) area)))
+    replied next (replyFB (r .channel) granted (next .progress .stored) (checksum crc32 (firstStored (next .progress) area)))
 
 unfoldable pub answerFB : Transfer → Board → RequestFB → List ℕ → Step
 answerFB t b r area =
-    cond (idle (t .phase) || otherChannel t (r .channel))
+    cond (idle (t .leg .phase) || otherChannel t (r .channel))
     (unanswered t)
-    (cond (eqb (stateFB b r (length area)) 0)
+    (cond (eqb (stateFB b r (length area)) granted)
     (grantFB t r area)
     (replied (withPhase t Idle) (replyFB (r .channel) (stateFB b r (length area)) 0 0)))

@@ -4,29 +4,28 @@
 -- as far as the CRC starts a check (outcome 0, no reply)"; its end "gives the verdict and FE's reply, makes FE's changes and zeroes the
 -- check's own fields". Assumes nothing.
 use mathlib.Core.Bool.{Bool, cond, not, _||_, _&&_}
-use mathlib.Core.List.{List}
 use Prim.Native.Nat.{ℕ}
 use lib.Dec.{eqb}
-use lib.ListN.{take}
-use Rattle.crc.specs.Crc.{checksum, crc32}
+use Rattle.image.specs.Checks.{noCheck, startedCheck}
+use Rattle.commands.specs.States.{granted, incompleteFE, refusedFE}
 use Rattle.commands.specs.Replies.{replyState}
 use Rattle.transfer.specs.declared.phase.Phase.the-variants.{Idle, Done}
 use Rattle.transfer.specs.declared.state.Transfer.{Transfer}
 use Rattle.transfer.specs.declared.state.Step.{Step}
 use Rattle.transfer.specs.Phases.{receivingOrDone}
 use Rattle.transfer.specs.Identities.{noIdentity}
-use Rattle.transfer.specs.Transfers.{noCheck, startedCheck, withPhase, withProgress, withCheck, otherChannel, replied, noted}
+use Rattle.transfer.specs.Transfers.{withPhase, replaced, withCheck, otherChannel, replied, noted}
 
 -- it "gets as far as the CRC"
 abbrev pub reachesCrc : Transfer → ℕ → Bool
-reachesCrc t channel = receivingOrDone (t .phase) && (not (otherChannel t channel) && eqb (t .stored) (t .image .announced))
+reachesCrc t channel = receivingOrDone (t .leg .phase) && (not (otherChannel t channel) && eqb (t .progress .stored) (t .image .announced))
 
 unfoldable pub answerFE : Transfer → ℕ → Step
 answerFE t channel =
-    cond (not (receivingOrDone (t .phase)) || otherChannel t channel)
-    (replied t (replyState channel 3))
-    (cond (not (eqb (t .stored) (t .image .announced)))
-    (replied t (replyState channel 1))
+    cond (not (receivingOrDone (t .leg .phase)) || otherChannel t channel)
+    (replied t (replyState channel refusedFE))
+    (cond (not (eqb (t .progress .stored) (t .image .announced)))
+    (replied t (replyState channel incompleteFE))
     (noted (withCheck t startedCheck)))
 
 -- the end of the check, by whether the CRC-32 is the announced one. The reply's channel is FE's: the session's.
@@ -34,9 +33,5 @@ unfoldable pub endedFE : Transfer → Bool → Step
 endedFE t right =
     let unchecked = withCheck t noCheck in
     cond right
-    (replied (withPhase unchecked Done) (replyState (t .channel) 0))
-    (replied (withProgress unchecked Idle (t .next) 0 noIdentity) (replyState (t .channel) 3))
-
--- in one go: the CRC-32 of the area's first announced bytes is the announced one
-abbrev pub rightCrc : Transfer → List ℕ → Bool
-rightCrc t area = eqb (checksum crc32 (take (t .image .announced) area)) (t .image .crc)
+    (replied (withPhase unchecked Done) (replyState (t .leg .channel) granted))
+    (replied (replaced unchecked Idle noIdentity) (replyState (t .leg .channel) refusedFE))

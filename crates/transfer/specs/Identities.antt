@@ -5,16 +5,10 @@ use mathlib.Core.List.{List, [], _∷_}
 use Prim.Native.Nat.{ℕ}
 use lib.Dec.{ltb, eqb}
 use lib.ListN.{getD}
-use Rattle.frames.specs.Finished.{zeros}
+use Rattle.sequences.specs.Comparing.{same}
+use Rattle.sequences.specs.Padding.{zeros}
 use Rattle.commands.specs.declared.request.RequestFB.{RequestFB}
 use Rattle.transfer.specs.declared.identity.Identity.{Identity}
-
--- the same bytes
-unfoldable pub same : List ℕ → List ℕ → Bool
-same [] [] = true
-same [] (b ∷ t) = false
-same (a ∷ s) [] = false
-same (a ∷ s) (b ∷ t) = eqb a b && same s t
 
 -- version a is above version b
 unfoldable pub newer : List ℕ → List ℕ → Bool

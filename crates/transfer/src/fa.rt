@@ -1,13 +1,16 @@
 // FA: may an image be sent?
 use crate::board::Board;
+use crate::phase::Phase;
+use crate::state::Leg;
 use crate::state::Step;
 use crate::state::Transfer;
 use commands::limits::MAX_PACKET;
 use commands::limits::MIN_PACKET;
 use commands::reply;
 use commands::request::RequestFA;
+use commands::state;
 ghost use mathlib.Core.Path.{_≡_};
-ghost use Rattle.transfer.specs.FA.{refusedFA, agreedSize, answerFA};
+ghost use Rattle.transfer.specs.FA.{refusedFA, agreedSize, asked, answerFA};
 
 impl Transfer {
     pub fn fa(self, r: RequestFA, board: Board) -> Step
@@ -15,10 +18,20 @@ impl Transfer {
     {
         let soft = board.soft;
         if refused(r, board) {
-            return Step::replied(self, reply::fa(r.channel, 1, soft));
+            return Step::replied(self, reply::fa(r.channel, state::FA_DENIED, soft));
         }
-        let next = self.asked(r.channel, agreed(r.len1));
-        Step::replied(next, reply::fa(r.channel, 0, soft))
+        Step::replied(self.asked(r), reply::fa(r.channel, state::GRANTED, soft))
+    }
+
+    fn asked(self, r: RequestFA) -> Transfer
+        ensures { λ t. ⌜ t ≡ asked self r ⌝ }
+    {
+        self.with_leg(Leg {
+            phase: Phase::Asked,
+            channel: r.channel,
+            agreed: agreed(r.len1),
+            next: self.leg.next,
+        })
     }
 }
 

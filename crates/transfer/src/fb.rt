@@ -1,7 +1,6 @@
 // FB: which image it is, and how much of it stands in the area already.
 use crate::board::Board;
 use crate::compare::newer;
-use crate::compare::same8;
 use crate::identity::Identity;
 use crate::phase::Phase;
 use crate::phase::is_idle;
@@ -9,26 +8,26 @@ use crate::state::Step;
 use crate::state::Transfer;
 use commands::reply;
 use commands::request::RequestFB;
+use commands::state;
+use sequences::compare::same8;
 ghost use mathlib.Core.Path.{_≡_};
 ghost use mathlib.Core.Bool.{_||_, not};
-ghost use Prim.Native.Nat.{_≤_};
 ghost use lib.Dec.{eqb, ltb};
-ghost use lib.ListN.{length};
 ghost use Rattle.transfer.specs.Phases.{idle};
-ghost use Rattle.transfer.specs.Identities.{same, newer, identityOf, sameIdentity};
-ghost use Rattle.transfer.specs.Transfers.{otherChannel, Sound};
+ghost use Rattle.sequences.specs.Comparing.{same};
+ghost use Rattle.transfer.specs.Identities.{newer, identityOf, sameIdentity};
+ghost use Rattle.transfer.specs.Transfers.{otherChannel};
 ghost use Rattle.transfer.specs.FB.{stateFB, afterFB, answerFB, grantFB};
 
 impl Transfer {
     pub fn fb(self, r: RequestFB, board: Board, area: &[u8]) -> Step
-        requires { ⌜ Sound self (length (now area)) ⌝ }
         ensures { λ s. ⌜ s ≡ answerFB self board r (now (area .entry)) ⌝ }
     {
         if self.not_in_session(r.channel) {
             return Step::unanswered(self);
         }
         let state = state_for(r, board, area.len());
-        if state == 0 {
+        if state == state::GRANTED {
             return self.grant_fb(r, area);
         }
         let next = self.with_phase(Phase::Idle);
@@ -36,9 +35,10 @@ impl Transfer {
     }
 
     fn not_in_session(self, channel: u8) -> bool
-        ensures { λ x. ⌜ x ≡ (idle (self .phase) || otherChannel self channel) ⌝ }
+        ensures { λ x. ⌜ x ≡ (idle (self .leg .phase) || otherChannel self channel) ⌝ }
     {
-        let phase = self.phase;
+        let leg = self.leg;
+        let phase = leg.phase;
         if is_idle(phase) {
             return true;
         }
@@ -47,24 +47,26 @@ impl Transfer {
 
     // The CRC-32 is taken of the area's bytes as they stand, after it is settled how many stay.
     fn grant_fb(self, r: RequestFB, area: &[u8]) -> Step
-        requires { ⌜ Sound self (length (now area)) ⌝ }
         ensures { λ s. ⌜ s ≡ grantFB self r (now (area .entry)) ⌝ }
     {
         let next = self.after_fb(r);
-        let stored = next.stored;
-        let crc = crc32::checksum(&area[..stored]);
-        Step::replied(next, reply::fb(r.channel, 0, stored, crc))
+        let progress = next.progress;
+        let crc = progress.checksum(area);
+        Step::replied(
+            next,
+            reply::fb(r.channel, state::GRANTED, progress.stored, crc),
+        )
     }
 
     fn after_fb(self, r: RequestFB) -> Transfer
-        ensures { λ t. ⌜ (t ≡ afterFB self r) × (t .stored ≤ self .stored) ⌝ }
+        ensures { λ t. ⌜ t ≡ afterFB self r ⌝ }
     {
         let told = Identity::told(r);
         let held = self.image;
         if told.is(held) {
             return self.with_phase(Phase::Told);
         }
-        self.with_progress(Phase::Told, self.next, 0, told)
+        self.replaced(Phase::Told, told)
     }
 }
 
@@ -73,15 +75,15 @@ fn state_for(r: RequestFB, board: Board, n: usize) -> u8
     ensures { λ x. ⌜ x ≡ stateFB board r n ⌝ }
 {
     if other_pid(r, board) {
-        return 1;
+        return state::FB_OTHER_PID;
     }
     if not_newer(r, board) {
-        return 2;
+        return state::FB_OLD_VERSION;
     }
     if bad_length(r, n) {
-        return 3;
+        return state::FB_BAD_LENGTH;
     }
-    0
+    state::GRANTED
 }
 
 fn other_pid(r: RequestFB, board: Board) -> bool

@@ -1,68 +1,98 @@
 // FD: a packet.
-use crate::compare::same;
 use crate::phase::is_receiving;
+use crate::state::Leg;
 use crate::state::Step;
 use crate::state::Transfer;
+use commands::limits::MAX_NEXT;
 use commands::reply;
 use commands::request::RequestFD;
+use commands::state;
 ghost use mathlib.Core.Path.{_≡_};
-ghost use mathlib.Core.Bool.{cond, not, _&&_};
-ghost use Prim.Native.Nat.{_+_, _≤_};
+ghost use mathlib.Core.Bool.{true, cond, not, _&&_};
+ghost use Prim.Native.Nat.{_+_, _<_};
 ghost use lib.Dec.{eqb};
-ghost use lib.ListN.{length};
-ghost use Rattle.transfer.specs.Transfers.{Sound};
-ghost use Rattle.frames.specs.Places.{writtenAt};
-ghost use Rattle.transfer.specs.FD.{notReceivingHere, repeats, wrongSize, wrongCrc, stateFD, answerFD, areaFD};
+ghost use Rattle.commands.specs.Limits.{maxNext};
+ghost use Rattle.transfer.specs.FD.{notReceivingHere, repeats, notNext, wrongSize, wrongCrc, stateFD, numberedOn, afterPacket, areaWith, answerFD, areaFD};
+
+impl Leg {
+    fn after_packet(self) -> Leg
+        requires { ⌜ self .next < maxNext ⌝ }
+        ensures { λ l. ⌜ l ≡ numberedOn self ⌝ }
+    {
+        let phase = self.phase;
+        Leg {
+            phase,
+            channel: self.channel,
+            agreed: self.agreed,
+            next: self.next + 1,
+        }
+    }
+}
 
 impl Transfer {
     // `packet` is the frame's data behind the fields.
     pub fn fd(self, r: RequestFD, packet: &[u8], area: &mut [u8]) -> Step
-        requires { ⌜ Sound self (length (now area)) ⌝ }
         ensures { λ s. ⌜ (s ≡ answerFD self r (now (packet .entry)) (now (area .entry))) × (now (area .exit) ≡ areaFD self r (now (packet .entry)) (now (area .entry))) ⌝ }
     {
         let state = self.packet_state(r, packet, &area[..]);
         let answer = reply::state(r.channel, state);
         if self.stores(r, state) {
-            write_at(area, self.stored, packet);
-            let next = self.after_packet(packet.len());
+            let next = self.after_packet(packet, area);
             return Step::replied(next, answer);
         }
         Step::replied(self, answer)
     }
 
+    // Its bytes are stored, and another number is the next.
+    fn after_packet(self, packet: &[u8], area: &mut [u8]) -> Transfer
+        requires { ⌜ self .leg .next < maxNext ⌝ }
+        ensures { λ t. ⌜ (t ≡ afterPacket self (now (packet .entry)) (now (area .entry))) × (now (area .exit) ≡ areaWith self (now (packet .entry)) (now (area .entry))) ⌝ }
+    {
+        let leg = self.leg;
+        let progress = self.progress;
+        let image = self.image;
+        let check = self.check;
+        Transfer {
+            leg: leg.after_packet(),
+            progress: progress.store(packet, area),
+            image,
+            check,
+        }
+    }
+
     fn packet_state(self, r: RequestFD, packet: &[u8], area: &[u8]) -> u8
-        requires { ⌜ Sound self (length (now area)) ⌝ }
         ensures { λ x. ⌜ x ≡ stateFD self r (now (packet .entry)) (now (area .entry)) ⌝ }
     {
         if self.not_receiving_here(r) {
-            return 4;
+            return state::FD_NOT_RECEIVING;
         }
         if self.repeats(r, packet, area) {
             return crc_state(r, packet);
         }
-        if self.out_of_order(r) {
-            return 1;
+        if self.not_next(r) {
+            return state::FD_OTHER_NUMBER;
         }
         if self.wrong_size(r, packet.len()) {
-            return 2;
+            return state::FD_BAD_SIZE;
         }
         crc_state(r, packet)
     }
 
     // Of the packets answered 00 the repeated one is not the next: its bytes stand in the area already.
     fn stores(self, r: RequestFD, state: u8) -> bool
-        ensures { λ x. ⌜ x ≡ (eqb state 0 && eqb (r .number) (self .next)) ⌝ }
+        ensures { λ x. ⌜ x ≡ (eqb state 0 && eqb (r .number) (self .leg .next)) ⌝ }
     {
-        if state != 0 {
+        if state != state::GRANTED {
             return false;
         }
-        r.number == self.next
+        r.number == self.leg.next
     }
 
     fn not_receiving_here(self, r: RequestFD) -> bool
         ensures { λ x. ⌜ x ≡ notReceivingHere self r ⌝ }
     {
-        let phase = self.phase;
+        let leg = self.leg;
+        let phase = leg.phase;
         if is_receiving(phase) {
             return self.other_channel(r.channel);
         }
@@ -71,57 +101,55 @@ impl Transfer {
 
     // Whether it is the packet accepted last, sent again because our reply was lost.
     fn repeats(self, r: RequestFD, packet: &[u8], area: &[u8]) -> bool
-        requires { ⌜ Sound self (length (now area)) ⌝ }
         ensures { λ x. ⌜ x ≡ repeats self r (now (packet .entry)) (now (area .entry)) ⌝ }
     {
-        if self.last == 0 {
-            return false;
-        }
+        let progress = self.progress;
         if self.not_one_below(r) {
             return false;
         }
-        if r.size != self.last {
+        if r.size != progress.last {
             return false;
         }
-        if packet.len() != self.last {
-            return false;
-        }
-        let stored = self.stored;
-        let from = stored - self.last;
-        same(packet, &area[from..stored])
+        progress.is_last(packet, area)
     }
 
     // No number is below 0.
     fn not_one_below(self, r: RequestFD) -> bool
-        ensures { λ x. ⌜ x ≡ not (eqb (r .number + 1) (self .next)) ⌝ }
+        ensures { λ x. ⌜ x ≡ not (eqb (r .number + 1) (self .leg .next)) ⌝ }
     {
-        if self.next == 0 {
+        if self.leg.next == 0 {
             return true;
         }
-        r.number != self.next - 1
+        r.number != self.leg.next - 1
     }
 
-    fn out_of_order(self, r: RequestFD) -> bool
-        ensures { λ x. ⌜ x ≡ not (eqb (r .number) (self .next)) ⌝ }
+    fn not_next(self, r: RequestFD) -> bool
+        ensures { λ x. ⌜ x ≡ notNext self r ⌝ }
     {
-        r.number != self.next
+        if MAX_NEXT <= self.leg.next {
+            return true;
+        }
+        r.number != self.leg.next
     }
 
-    // What is left of the announced length is compared, so that no sum can be too large.
     fn wrong_size(self, r: RequestFD, n: usize) -> bool
-        requires { ⌜ self .stored ≤ self .image .announced ⌝ }
         ensures { λ x. ⌜ x ≡ wrongSize self r n ⌝ }
     {
+        let announced = self.image.announced;
+        let stored = self.progress.stored;
         if r.size != n {
             return true;
         }
         if r.size == 0 {
             return true;
         }
-        if self.agreed < r.size {
+        if self.leg.agreed < r.size {
             return true;
         }
-        self.image.announced - self.stored < r.size
+        if announced < stored {
+            return true;
+        }
+        announced - stored < r.size
     }
 }
 
@@ -129,21 +157,13 @@ fn crc_state(r: RequestFD, packet: &[u8]) -> u8
     ensures { λ x. ⌜ x ≡ cond (wrongCrc r (now (packet .entry))) 3 0 ⌝ }
 {
     if wrong_crc(r, packet) {
-        return 3;
+        return state::FD_BAD_CRC;
     }
-    0
+    state::GRANTED
 }
 
 fn wrong_crc(r: RequestFD, packet: &[u8]) -> bool
     ensures { λ x. ⌜ x ≡ wrongCrc r (now (packet .entry)) ⌝ }
 {
     crc16::modbus(packet) as usize != r.crc
-}
-
-// Lends the part of the area that begins at `at` on to the copying function, and no other part.
-fn write_at(area: &mut [u8], at: usize, packet: &[u8])
-    requires { ⌜ at + length (now packet) ≤ length (now area) ⌝ }
-    ensures { λ _. ⌜ now (area .exit) ≡ writtenAt (now (area .entry)) at (now (packet .entry)) ⌝ }
-{
-    bytes::copy(packet, &mut area[at..]);
 }

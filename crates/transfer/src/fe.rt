@@ -3,6 +3,8 @@ use crate::phase::is_receiving_or_done;
 use crate::state::Step;
 use crate::state::Transfer;
 use commands::reply;
+use commands::state;
+use image::check::Check;
 ghost use mathlib.Core.Path.{_≡_};
 ghost use mathlib.Core.Bool.{_||_, not};
 ghost use Rattle.transfer.specs.Phases.{receivingOrDone};
@@ -14,18 +16,19 @@ impl Transfer {
         ensures { λ s. ⌜ s ≡ answerFE self channel ⌝ }
     {
         if self.not_ending(channel) {
-            return Step::replied(self, reply::state(channel, 3));
+            return Step::replied(self, reply::state(channel, state::FE_REFUSED));
         }
-        if self.stored != self.image.announced {
-            return Step::replied(self, reply::state(channel, 1));
+        if self.progress.stored != self.image.announced {
+            return Step::replied(self, reply::state(channel, state::FE_INCOMPLETE));
         }
-        Step::noted(self.with_check_started())
+        Step::noted(self.with_check(Check::started()))
     }
 
     fn not_ending(self, channel: u8) -> bool
-        ensures { λ x. ⌜ x ≡ (not (receivingOrDone (self .phase)) || otherChannel self channel) ⌝ }
+        ensures { λ x. ⌜ x ≡ (not (receivingOrDone (self .leg .phase)) || otherChannel self channel) ⌝ }
     {
-        let phase = self.phase;
+        let leg = self.leg;
+        let phase = leg.phase;
         if is_receiving_or_done(phase) {
             return self.other_channel(channel);
         }

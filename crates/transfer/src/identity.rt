@@ -1,7 +1,7 @@
 // Which image a transfer is of.
-use crate::compare::same3;
-use crate::compare::same16;
 use commands::request::RequestFB;
+use sequences::compare::same3;
+use sequences::compare::same16;
 ghost use mathlib.Core.Path.{_≡_};
 ghost use Rattle.transfer.specs.Identities.{identityOf, sameIdentity, noIdentity};
 

@@ -2,8 +2,8 @@
 //
 // Each command is a method of `Transfer` that takes it by value, with the request's fields, and hands back a `Step`: the next
 // transfer, the reply's data, and whether there is an answer at all, and one with a reply. `Transfer::portion` goes on with the end check
-// that FE starts. The session above has found the board and judged the record; what it then knows of the transfer is `Sound`, which the
-// methods that look at the area ask for. Nothing here knows the board list, a frame's bytes or an outcome's number.
+// that FE starts. Any transfer, request and area is answered; nothing is asked of the caller. Nothing here knows the board list, a frame's
+// bytes or an outcome's number.
 pub mod board;
 pub mod check;
 mod compare;

@@ -1,14 +1,16 @@
 // The state of a transfer, and the few ways in which a command or a portion of the end check changes it.
-use crate::check::Check;
 use crate::identity::Identity;
 use crate::phase::Phase;
 use commands::reply;
+use commands::reply::MAX_REPLY;
+use image::check::Check;
+use image::progress::Progress;
 ghost use mathlib.Core.Path.{_≡_};
 ghost use mathlib.Core.Bool.{true};
-ghost use Prim.Native.Nat.{_+_, _≤_};
-ghost use Rattle.transfer.specs.Transfers.{noTransfer, asked, withPhase, withProgress, withCheck, afterPacket, noted, unanswered, otherChannel};
+ghost use Rattle.transfer.specs.Transfers.{noLeg, noTransfer, inPhase, withLeg, withPhase, replaced, withCheck, noted, unanswered, otherChannel};
 
-pub struct Transfer {
+// What a transfer has agreed on, and how far its frames have come.
+pub struct Leg {
     pub phase: Phase,
     // The session's channel.
     pub channel: u8,
@@ -16,10 +18,11 @@ pub struct Transfer {
     pub agreed: usize,
     // The next packet's number.
     pub next: usize,
-    // How many bytes of the image stand in the area.
-    pub stored: usize,
-    // The length of the packet accepted last in this leg; 0 where there is none.
-    pub last: usize,
+}
+
+pub struct Transfer {
+    pub leg: Leg,
+    pub progress: Progress,
     pub image: Identity,
     pub check: Check,
 }
@@ -29,11 +32,11 @@ pub struct Step {
     pub answered: bool,
     pub replies: bool,
     pub transfer: Transfer,
-    pub reply: [u8; 26],
+    pub reply: [u8; MAX_REPLY],
 }
 
 impl Step {
-    pub(crate) fn replied(transfer: Transfer, reply: [u8; 26]) -> Step
+    pub(crate) fn replied(transfer: Transfer, reply: [u8; MAX_REPLY]) -> Step
         ensures { λ r. ⌜ r ≡ record { answered = true; replies = true; transfer = transfer; reply = reply } ⌝ }
     {
         Step {
@@ -70,36 +73,51 @@ impl Step {
     }
 }
 
-impl Transfer {
-    pub fn none() -> Transfer
-        ensures { λ r. ⌜ r ≡ noTransfer ⌝ }
+impl Leg {
+    fn none() -> Leg
+        ensures { λ r. ⌜ r ≡ noLeg ⌝ }
     {
-        let image = Identity::none();
-        let check = Check::none();
-        Transfer {
+        Leg {
             phase: Phase::Idle,
             channel: 0,
             agreed: 0,
             next: 0,
-            stored: 0,
-            last: 0,
-            image,
-            check,
         }
     }
 
-    pub(crate) fn asked(self, channel: u8, agreed: usize) -> Transfer
-        ensures { λ r. ⌜ r ≡ asked self channel agreed ⌝ }
+    pub(crate) fn in_phase(self, phase: Phase) -> Leg
+        ensures { λ r. ⌜ r ≡ inPhase self phase ⌝ }
     {
+        Leg {
+            phase,
+            channel: self.channel,
+            agreed: self.agreed,
+            next: self.next,
+        }
+    }
+}
+
+impl Transfer {
+    pub fn none() -> Transfer
+        ensures { λ r. ⌜ r ≡ noTransfer ⌝ }
+    {
+        Transfer {
+            leg: Leg::none(),
+            progress: Progress::from(0),
+            image: Identity::none(),
+            check: Check::none(),
+        }
+    }
+
+    pub(crate) fn with_leg(self, leg: Leg) -> Transfer
+        ensures { λ r. ⌜ r ≡ withLeg self leg ⌝ }
+    {
+        let progress = self.progress;
         let image = self.image;
         let check = self.check;
         Transfer {
-            phase: Phase::Asked,
-            channel,
-            agreed,
-            next: self.next,
-            stored: self.stored,
-            last: self.last,
+            leg,
+            progress,
             image,
             check,
         }
@@ -108,39 +126,19 @@ impl Transfer {
     pub(crate) fn with_phase(self, phase: Phase) -> Transfer
         ensures { λ r. ⌜ r ≡ withPhase self phase ⌝ }
     {
-        let image = self.image;
-        let check = self.check;
-        Transfer {
-            phase,
-            channel: self.channel,
-            agreed: self.agreed,
-            next: self.next,
-            stored: self.stored,
-            last: self.last,
-            image,
-            check,
-        }
+        let leg = self.leg;
+        self.with_leg(leg.in_phase(phase))
     }
 
-    // A leg begins (FC), or what is stored is dropped (another identity in FB, a failed end check): no packet is the last one.
-    pub(crate) fn with_progress(
-        self,
-        phase: Phase,
-        next: usize,
-        stored: usize,
-        image: Identity,
-    ) -> Transfer
-        ensures { λ r. ⌜ r ≡ withProgress self phase next stored image ⌝ }
+    // Another image (FB), or none any more (a failed end check): nothing of it is stored.
+    pub(crate) fn replaced(self, phase: Phase, image: Identity) -> Transfer
+        ensures { λ r. ⌜ r ≡ replaced self phase image ⌝ }
     {
-        let last = 0;
+        let leg = self.leg;
         let check = self.check;
         Transfer {
-            phase,
-            channel: self.channel,
-            agreed: self.agreed,
-            next,
-            stored,
-            last,
+            leg: leg.in_phase(phase),
+            progress: Progress::from(0),
             image,
             check,
         }
@@ -149,35 +147,12 @@ impl Transfer {
     pub(crate) fn with_check(self, check: Check) -> Transfer
         ensures { λ r. ⌜ r ≡ withCheck self check ⌝ }
     {
-        let phase = self.phase;
+        let leg = self.leg;
+        let progress = self.progress;
         let image = self.image;
         Transfer {
-            phase,
-            channel: self.channel,
-            agreed: self.agreed,
-            next: self.next,
-            stored: self.stored,
-            last: self.last,
-            image,
-            check,
-        }
-    }
-
-    // One packet of n bytes more.
-    pub(crate) fn after_packet(self, n: usize) -> Transfer
-        requires { ⌜ (self .stored + n ≤ self .image .announced) × (self .next ≤ 65536) ⌝ }
-        ensures { λ r. ⌜ r ≡ afterPacket self n ⌝ }
-    {
-        let phase = self.phase;
-        let image = self.image;
-        let check = self.check;
-        Transfer {
-            phase,
-            channel: self.channel,
-            agreed: self.agreed,
-            next: self.next + 1,
-            stored: self.stored + n,
-            last: n,
+            leg,
+            progress,
             image,
             check,
         }
@@ -186,6 +161,6 @@ impl Transfer {
     pub(crate) fn other_channel(self, channel: u8) -> bool
         ensures { λ r. ⌜ r ≡ otherChannel self channel ⌝ }
     {
-        channel != self.channel
+        channel != self.leg.channel
     }
 }

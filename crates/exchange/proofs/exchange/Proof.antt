@@ -12,7 +12,8 @@ start-requires c κs =
     let image = ap length (c .before .before .before .front .ensures) in
     let front = length-take (o .args .n) (o .args .bytes .now) in
     let good = o .good in
-    (o .pre .0, (omega (arith, image, front), omega (arith, image, front)))
+    let words = o .pre .0 in
+    (words, (omega (arith, image, front), omega (arith, image, front)))
 
 pub exchange-spec : {M : Type 1} → statement M
 exchange-spec =

@@ -1,5 +1,5 @@
--- `folding::move_down` meets its contract. The loop's invariant: the first i bytes are moved, and those still to be moved are as they were.
--- Assumes nothing.
+-- `folding::move_down` meets its contract. The loop's invariant: the first i bytes are moved, and those still to be moved are as they
+-- were. Assumes nothing.
 use borrow.Author.Needs.{needs}
 use mathlib.Core.Path.{_≡_, ap, _∙_}
 use mathlib.Core.List.{List}

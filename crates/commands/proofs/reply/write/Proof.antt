@@ -5,10 +5,10 @@ use mathlib.Core.List.{List}
 use Prim.Native.Nat.{ℕ}
 use native.Mathlib.Omega.{arith}
 use lib.Seq.{length-take-le}
-use Rattle.frames.specs.Frame.{Frame}
+use Rattle.fronts.specs.Frame.{Frame}
 use Rattle.frames.specs.Buffer.{writtenSize, writtenRoom}
 use Rattle.commands.specs.declared.table.Row.{Row}
-use Rattle.commands.specs.Table.{placeOf, rowAt}
+use Rattle.commands.specs.Table.{placeInTable, rowAt}
 use Rattle.commands.proofs.Replies.{byRow, by-row, no-reply, some-reply, unreplied-size, unreplied-room, replied-size, replied-room}
 use Rattle.commands.proofs.reply.write.Statement.{statement}
 use Rattle.commands.proofs.reply.write.Tie as tie

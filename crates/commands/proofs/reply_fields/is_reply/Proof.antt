@@ -7,7 +7,7 @@ use borrow.Author.Tests.{eq-eqb, ne-eqb}
 use lib.Dec.{eqb}
 use Rattle.frames.specs.Buffer.{versionAt, commandAt}
 use Rattle.commands.specs.declared.table.Row.{Row}
-use Rattle.commands.specs.Table.{placeOf, rowAt}
+use Rattle.commands.specs.Table.{placeInTable, rowAt}
 use Rattle.commands.specs.ReplyFields.{isReply}
 use Rattle.commands.proofs.reply_fields.is_reply.Statement.{statement}
 use Rattle.commands.proofs.reply_fields.is_reply.Tie as tie
@@ -24,7 +24,7 @@ unfolding isReply
 returns-2 c =
     let a = c .before .before .before .before .before .before .before .before .before .args in
     let own : eqb (commandAt (a .s .now)) (a .command) ≡ true = ap (λ (x : ℕ). eqb x (a .command)) (sym (c .before .before .before .before .command .ensures)) ∙ eq-eqb _ _ (c .before .before .before .if2 .left) in
-    let other : eqb (versionAt (a .s .now)) (rowAt (placeOf (a .command)) .«reply_version») ≡ false =
+    let other : eqb (versionAt (a .s .now)) (rowAt (placeInTable (a .command)) .«reply_version») ≡ false =
     ap (λ (r : Row). eqb (versionAt (a .s .now)) (r .«reply_version»)) (sym (c .before .before .before .before .before .before .before .row-of .ensures .is))
     ∙ ap (λ (x : ℕ). eqb x (c .before .before .before .before .before .before .before .row-of .result .«reply_version»)) (sym (c .before .before .version .ensures))
     ∙ ne-eqb _ _ (c .if3 .taken) in
@@ -36,7 +36,7 @@ returns-3 c =
     let a = c .before .before .before .before .before .before .before .before .before .before .before .args in
     let row = c .before .before .before .before .before .before .before .before .before .row-of in
     let own : eqb (commandAt (a .s .now)) (a .command) ≡ true = ap (λ (x : ℕ). eqb x (a .command)) (sym (c .before .before .before .before .before .before .command .ensures)) ∙ eq-eqb _ _ (c .before .before .before .before .before .if2 .left) in
-    let version : eqb (versionAt (a .s .now)) (rowAt (placeOf (a .command)) .«reply_version») ≡ true =
+    let version : eqb (versionAt (a .s .now)) (rowAt (placeInTable (a .command)) .«reply_version») ≡ true =
     ap (λ (r : Row). eqb (versionAt (a .s .now)) (r .«reply_version»)) (sym (row .ensures .is))
     ∙ ap (λ (x : ℕ). eqb x (row .result .«reply_version»)) (sym (c .before .before .before .before .version .ensures))
     ∙ eq-eqb _ _ (c .before .before .if3 .left) in

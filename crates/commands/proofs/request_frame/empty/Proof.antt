@@ -4,7 +4,7 @@ use mathlib.Core.Path.{ap, _∙_}
 use Rattle.frames.specs.Finished.{noData}
 use Rattle.frames.proofs.FinishedFrames.{no-data}
 use Rattle.commands.specs.declared.table.Row.{Row}
-use Rattle.commands.specs.Table.{placeOf, rowAt}
+use Rattle.commands.specs.Table.{placeInTable, rowAt}
 use Rattle.commands.specs.RequestFrames.{requestFrame}
 use Rattle.commands.proofs.request_frame.empty.Statement.{statement}
 use Rattle.commands.proofs.request_frame.empty.Tie as tie
@@ -15,7 +15,7 @@ returns c =
     let command = c .before .before .args .command in
     c .empty .ensures
     ∙ ap (λ (r : Row). noData (r .version) command) (c .before .row-of .ensures .is)
-    ∙ no-data (rowAt (placeOf command) .version) command
+    ∙ no-data (rowAt (placeInTable command) .version) command
 
 pub empty-spec : {M : Type 1} → statement M
 empty-spec = tie.close (tie.spec (λ c κs. search needs) (λ c κs. search needs) returns)

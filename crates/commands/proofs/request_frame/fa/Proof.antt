@@ -3,7 +3,7 @@ use borrow.Author.Needs.{needs}
 use mathlib.Core.Path.{refl, _∙_}
 use mathlib.Core.List.{[]}
 use native.Mathlib.Omega.{arith}
-use Rattle.frames.specs.Numbers.{bytes16}
+use Rattle.sequences.specs.Numbers.{bytes16}
 use Rattle.commands.specs.RequestFrames.{byte, dataFA}
 use Rattle.commands.proofs.RequestFrames.{with-field}
 use Rattle.commands.proofs.request_frame.fa.Statement.{statement}

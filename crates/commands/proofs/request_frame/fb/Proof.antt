@@ -4,7 +4,7 @@ use mathlib.Core.Path.{_∙_}
 use mathlib.Core.List.{_++_}
 use native.Mathlib.Omega.{arith}
 use lib.ListN.{length-append}
-use Rattle.frames.specs.Numbers.{bytes32}
+use Rattle.sequences.specs.Numbers.{bytes32}
 use Rattle.commands.specs.RequestFrames.{namedFB, dataFB}
 use Rattle.commands.proofs.RequestFrames.{with-field}
 use Rattle.commands.proofs.request_frame.fb.Statement.{statement}

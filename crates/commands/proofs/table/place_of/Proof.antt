@@ -4,20 +4,20 @@ use mathlib.Core.Path.{_≡_, sym, _∙_}
 use Prim.Native.Nat.{_≤_, _-_}
 use native.Mathlib.Omega.{arith}
 use borrow.Author.Tests.{eq-eqb, ne-eqb}
-use Rattle.commands.specs.Search.{find}
-use Rattle.commands.specs.Table.{table, rowAt, isCommand, placeOf}
-use Rattle.commands.proofs.Searches.{find-start, find-hit, find-miss, find-end}
+use Rattle.sequences.specs.Search.{find}
+use Rattle.commands.specs.Table.{table, rowAt, isCommand, placeInTable}
+use Rattle.sequences.proofs.Searches.{find-start, find-hit, find-miss, find-end}
 use Rattle.commands.proofs.table.place_of.Statement.{statement}
 use Rattle.commands.proofs.table.place_of.Tie as tie
 
 abbrev Inv-loop : tie.InvT-loop
-Inv-loop command i₀ i = (i ≤ 6) × (find (isCommand command) (6 - i) i ≡ placeOf command)
+Inv-loop command i₀ i = (i ≤ 6) × (find (isCommand command) (6 - i) i ≡ placeInTable command)
 
 abbrev μ-loop : tie.MeasureT-loop
 μ-loop command i₀ i = 6 - i
 
 loop-holds : tie.Need-loop-holds Inv-loop μ-loop
-unfolding placeOf
+unfolding placeInTable
 loop-holds c = (search needs, find-start (isCommand (c .args .command)) 6)
 
 returns : tie.Need-returns Inv-loop μ-loop

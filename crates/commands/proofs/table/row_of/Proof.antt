@@ -4,7 +4,7 @@ use mathlib.Core.Path.{_≡_, sym, ap, _∙_}
 use Prim.Native.Nat.{ℕ}
 use native.Mathlib.Omega.{arith}
 use Rattle.commands.specs.declared.table.Row.{Row}
-use Rattle.commands.specs.Table.{table, placeOf, rowAt}
+use Rattle.commands.specs.Table.{table, placeInTable, rowAt}
 use Rattle.commands.proofs.Rows.{reply-short}
 use Rattle.commands.proofs.table.row_of.Statement.{statement}
 use Rattle.commands.proofs.table.row_of.Tie as tie
@@ -17,7 +17,7 @@ returns c =
 returns-2 : tie.Need-returns-2
 unfolding rowAt table
 returns-2 c =
-    let e : placeOf (c .before .before .args .command) ≡ 6 = omega arith in
+    let e : placeInTable (c .before .before .args .command) ≡ 6 = omega arith in
     record { is = sym (ap rowAt e); fits = omega arith }
 
 pub row-of-spec : {M : Type 1} → statement M

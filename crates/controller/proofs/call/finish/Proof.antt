@@ -2,8 +2,7 @@
 use borrow.Author.Needs.{needs}
 use mathlib.Core.Path.{ap, _∙_}
 use Rattle.session.specs.declared.answer.Answer.{Answer}
-use Rattle.controller.specs.Calls.{replyRoomOf}
-use Rattle.controller.specs.Calls.{finishedCall}
+use Rattle.controller.specs.Calls.{replyRoomOf, finishedCall}
 use Rattle.controller.proofs.call.finish.Statement.{statement}
 use Rattle.controller.proofs.call.finish.Tie as tie
 

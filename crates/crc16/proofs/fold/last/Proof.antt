@@ -5,7 +5,7 @@ use Prim.Native.Nat.{ℕ}
 use native.Mathlib.Omega.{arith}
 use Rattle.crc.specs.Crc.{update}
 use Rattle.crc.specs.Folding.{unswept}
-use Rattle.crc16.specs.Kinds.{kindOf}
+use Rattle.crc16.specs.Foldable.{kindFor}
 use Rattle.crc16.proofs.Foldable.{within-one}
 use Rattle.crc16.proofs.fold.last.Statement.{statement}
 use Rattle.crc16.proofs.fold.last.Tie as tie
@@ -20,7 +20,7 @@ returns c =
     let o = c .before .before .before .before .before .before .before .before .before .before in
     let p = o .args .p in
     c .over .ensures
-    ∙ ap (update (kindOf p) 0)
+    ∙ ap (update (kindFor p) 0)
     (c .before .before .before .before .unsweep .ensures
     ∙ ap (λ (n : ℕ). unswept (p .offsets) (p .far) n (o .args .b .now)) (o .pre .1 .0))
 

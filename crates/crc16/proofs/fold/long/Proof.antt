@@ -7,9 +7,10 @@ use lib.Dec.{lit≤}
 use lib.ListN.{length, take, replicate}
 use lib.Seq.{length-take-le}
 use Rattle.crc.proofs.Folding.{folded}
-use Rattle.crc16.specs.Kinds.{directionOf, kindOf, maxFar, room}
+use Rattle.slicing16.specs.Kinds.{directionOf}
+use Rattle.slicing16.proofs.UsedUp.{used-up}
+use Rattle.crc16.specs.Foldable.{kindFor, maxFar, room16}
 use Rattle.crc16.proofs.Foldable.{within-one}
-use Rattle.crc16.proofs.TwoBytes.{used-up}
 use Rattle.crc16.proofs.fold.long.Statement.{statement}
 use Rattle.crc16.proofs.fold.long.Tie as tie
 
@@ -34,9 +35,9 @@ returns c =
     let able = o .pre .1 .1 in
     let whole : p .far - 2 + 2 ≡ p .far = omega arith in
     c .before .last .ensures
-    ∙ folded (kindOf p) (p .far) (p .offsets) (within-one p able) (lit≤ tt) room (p .far - 2) 2 (o .args .register)
+    ∙ folded (kindFor p) (p .far) (p .offsets) (within-one p able) (lit≤ tt) room16 (p .far - 2) 2 (o .args .register)
     (o .args .s .now) _ _ _ whole (able .within)
-    (omega arith) (o .pre .0) (used-up (directionOf (p .reflected)) (o .args .register) (search needs))
+    (omega arith) (o .pre .0) (used-up (directionOf (p .kind .reflected)) (o .args .register) (search needs))
     (c .before .before .before .before .before .before .before .before .before .put-head .ensures)
     (c .before .before .before .before .before .all .ensures) (search needs) refl
 

@@ -5,7 +5,7 @@ use Prim.Native.Nat.{_+_}
 use native.Mathlib.Omega.{arith}
 use lib.Dec.{lit≤}
 use Rattle.crc.proofs.Folding.{carries-part, within-wider}
-use Rattle.crc16.specs.Kinds.{kindOf}
+use Rattle.crc16.specs.Foldable.{kindFor}
 use Rattle.crc16.proofs.Foldable.{within-one}
 use Rattle.crc16.proofs.fold.part.Statement.{statement}
 use Rattle.crc16.proofs.fold.part.Tie as tie
@@ -18,14 +18,13 @@ sweep-requires c κs =
 
 returns : tie.Need-returns
 returns c =
-    let o = c .before .before .before .before .before .before .before .before .before .before .before .before in
+    let known = c .before .before .before .before .before .before .before .before .before .before in
+    let o = known .before .before in
     let p = o .args .p in
     let able = o .pre .1 .1 in
-    let made = carries-part (kindOf p) (p .far) (p .offsets) (within-one p able) (able .multiple)
+    let made = carries-part (kindFor p) (p .far) (p .offsets) (within-one p able) (able .multiple)
     (o .args .s .now) (o .args .b .now) _ _ _ refl
-    (λ i. omega (arith, c .before .before .before .before .before .before .before .before .before .before .before .shared-slice-known .given i))
-    (λ i. omega (arith, c .before .before .before .before .before .before .before .before .before .before .slice-known .given i))
-    (omega arith)
+    (λ i. omega (arith, known .before .shared-slice-known .given i)) (λ i. omega (arith, known .slice-known .given i)) (omega arith)
     (c .before .before .before .before .before .before .sweep .ensures) (c .before .before .move-down .ensures) in
     (made .0 ∙ o .pre .1 .0, made .1)
 

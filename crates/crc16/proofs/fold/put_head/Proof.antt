@@ -7,7 +7,7 @@ use native.Mathlib.Omega.{arith}
 use lib.Bits.{bitXor}
 use lib.ListN.{getD, set, length-set}
 use lib.Seq.{sets}
-use Rattle.crc16.proofs.TwoBytes.{two-met}
+use Rattle.crc16.proofs.FirstBytes.{two-met}
 use Rattle.crc16.proofs.fold.put_head.Statement.{statement}
 use Rattle.crc16.proofs.fold.put_head.Tie as tie
 
@@ -24,7 +24,7 @@ returns c =
     ap (λ (n : ℕ). set (set (o .args .b .now) at (bitXor (f0 .result) (getD (o .args .s .now) 0 0))) n
     (bitXor (f1 .result) (getD (o .args .s .now) 1 0))) (add-one at)
     ∙ ap (sets (o .args .b .now) at)
-    (two-met (o .args .p) (o .args .register) (left .result) (f0 .result) (f1 .result) (o .args .s .now) (o .pre .0) (left .ensures)
+    (two-met (o .args .p .kind) (o .args .register) (left .result) (f0 .result) (f1 .result) (o .args .s .now) (o .pre .0) (left .ensures)
     (f0 .ensures) (f1 .ensures))
 
 pub put-head-spec : {M : Type 1} → statement M

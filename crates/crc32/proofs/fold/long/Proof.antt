@@ -5,8 +5,9 @@ use native.Mathlib.Omega.{arith}
 use lib.Dec.{lit≤}
 use Rattle.crc.specs.Crc.{crc32}
 use Rattle.crc.proofs.Folding.{folded}
-use Rattle.crc32.specs.Offsets.{offsets, far, room}
-use Rattle.crc32.proofs.Foldable.{within-four, within-one, used-up}
+use Rattle.slicing32.proofs.UsedUp.{used-up}
+use Rattle.crc32.specs.Offsets.{offsets, far, room32}
+use Rattle.crc32.proofs.Foldable.{within-four, within-one}
 use Rattle.crc32.proofs.fold.long.Statement.{statement}
 use Rattle.crc32.proofs.fold.long.Tie as tie
 
@@ -18,7 +19,7 @@ unfolding crc32
 returns c =
     let o = c .before .before .before .before .before .before .before .before .before .before .before .before .before .before .before in
     c .over .ensures
-    ∙ folded crc32 far offsets within-one (lit≤ tt) room 296 4 (o .args .register) (o .args .s .now) _ _ _ refl within-four (lit≤ tt)
+    ∙ folded crc32 far offsets within-one (lit≤ tt) room32 296 4 (o .args .register) (o .args .s .now) _ _ _ refl within-four (lit≤ tt)
     (o .pre .0)
     (used-up (o .args .register) (search needs))
     (c .before .before .before .before .before .before .before .before .before .before .before .before .put-head .ensures)

@@ -15,10 +15,10 @@ sweep-requires c κs = (within-wider 4 far 1 _ offsets (lit≤ tt) (lit≤ tt) w
 
 returns : tie.Need-returns
 returns c =
-    let o = c .before .before .before .before .before .before .before .before .before .before .before in
+    let known = c .before .before .before .before .before .before .before .before .before in
+    let o = known .before .before in
     let made = carries-part crc32 far offsets within-one offsets-multiple (o .args .s .now) (o .args .b .now) _ _ _ refl
-    (λ i. omega (arith, c .before .before .before .before .before .before .before .before .before .before .shared-slice-known .given i))
-    (λ i. omega (arith, c .before .before .before .before .before .before .before .before .before .slice-known .given i)) (omega arith)
+    (λ i. omega (arith, known .before .shared-slice-known .given i)) (λ i. omega (arith, known .slice-known .given i)) (omega arith)
     (c .before .before .before .before .before .before .sweep .ensures) (c .before .before .move-down .ensures) in
     (made .0 ∙ o .pre .1, made .1)
 

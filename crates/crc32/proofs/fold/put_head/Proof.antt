@@ -2,15 +2,16 @@
 use borrow.Author.Needs.{needs}
 use mathlib.Core.Path.{ap}
 use lib.Seq.{sets}
-use Rattle.crc32.specs.Offsets.{headAt}
-use Rattle.crc32.proofs.Foldable.{four-met}
+use Rattle.crc.specs.Folding.{headAt}
+use Rattle.crc32.specs.Offsets.{far}
+use Rattle.crc32.proofs.FirstBytes.{four-met}
 use Rattle.crc32.proofs.fold.put_head.Statement.{statement}
 use Rattle.crc32.proofs.fold.put_head.Tie as tie
 
 returns : tie.Need-returns
 returns c =
     let o = c .before .before .before .before .before .before .before .before .before .before in
-    ap (sets (o .args .b .now) headAt)
+    ap (sets (o .args .b .now) (headAt far 4))
     (four-met (o .args .register) (c .before .before .before .before .before .before .before .low .result)
     (c .before .before .before .before .before .low2 .result)
     (c .before .before .before .low3 .result) (c .before .low4 .result) (o .args .s .now) (o .pre .0)

@@ -6,9 +6,9 @@ use mathlib.Core.List.{List, [], append-nil}
 use Prim.Native.Nat.{ℕ, _+_, _-_, _≤_}
 use native.Mathlib.Omega.{arith}
 use lib.ListN.{length, take, drop}
-use Rattle.frames.specs.Frame.{headerSize, frameSize, lengthAt, frameAt}
+use Rattle.fronts.specs.Frame.{headerSize, frameSize, lengthAt, frameAt}
 use Rattle.frames.specs.Buffer.{wholeAt, dataAt}
-use Rattle.frames.proofs.Fronts.{is-whole, whole-passed}
+use Rattle.fronts.proofs.Fronts.{is-whole, whole-passed}
 use Rattle.frames.proofs.buffer.data.Statement.{statement}
 use Rattle.frames.proofs.buffer.data.Tie as tie
 
@@ -20,9 +20,6 @@ module _ (c : tie.Then1) where
   all-there : frameSize (lengthAt s) ≤ length s
   unfolding wholeAt
   all-there = whole-passed s (is-whole _ (sym (c .before .whole .ensures) ∙ c .if1 .taken)) .there
-
-length-at-requires : tie.Need-length-at-requires
-length-at-requires c κs = omega (arith, all-there (c .before))
 
 -- L is what the header of s announces
 announced : (c : tie.After-length-at) → c .length-at .result ≡ lengthAt (s (c .before .before))
@@ -49,5 +46,5 @@ pub data-spec : {M : Type 1} → statement M
 data-spec =
     tie.close
     (tie.spec
-    (λ c κs. search needs) (λ c. search needs) length-at-requires (λ c. search needs) (λ c. search needs) (λ c. search needs)
+    (λ c κs. search needs) (λ c. search needs) (λ c κs. search needs) (λ c. search needs) (λ c. search needs) (λ c. search needs)
     part-result-end (λ c. search needs) returns returns-2)

@@ -2,9 +2,9 @@
 use borrow.Author.Needs.{needs}
 use mathlib.Core.Path.{sym, _∙_}
 use native.Mathlib.Omega.{arith}
-use Rattle.frames.specs.Frame.{frameAt}
+use Rattle.fronts.specs.Frame.{frameAt}
 use Rattle.frames.specs.Buffer.{wholeAt, versionAt}
-use Rattle.frames.proofs.Fronts.{is-whole, whole-passed}
+use Rattle.fronts.proofs.Fronts.{is-whole, whole-passed}
 use Rattle.frames.proofs.buffer.version.Statement.{statement}
 use Rattle.frames.proofs.buffer.version.Tie as tie
 

@@ -1,7 +1,7 @@
 -- `frames::buffer::whole` meets its contract. Assumes nothing.
 use borrow.Author.Needs.{needs}
 use mathlib.Core.Path.{sym, ap, _∙_}
-use Rattle.frames.specs.Fronts.{isWhole}
+use Rattle.fronts.specs.Fronts.{isWhole}
 use Rattle.frames.specs.Buffer.{wholeAt}
 use Rattle.frames.proofs.buffer.whole.Statement.{statement}
 use Rattle.frames.proofs.buffer.whole.Tie as tie

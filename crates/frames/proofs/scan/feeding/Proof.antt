@@ -7,9 +7,9 @@ use Prim.Native.Nat.{ℕ, _+_, _-_, _*_, _≤_, _<_}
 use native.Mathlib.Omega.{arith}
 use lib.ListN.{length, length-append}
 use lib.Seq.{slice}
-use Rattle.frames.specs.declared.front.Front.the-variants.{Whole, Dead, Open}
-use Rattle.frames.specs.Frame.{maxFrame}
-use Rattle.frames.specs.Fronts.{frontOf}
+use Rattle.fronts.specs.declared.front.Front.the-variants.{Whole, Dead, Open}
+use Rattle.fronts.specs.Frame.{maxFrame}
+use Rattle.fronts.specs.Fronts.{frontOf, Missing}
 use Rattle.frames.specs.LiveReading.{withoutFrame, feedingCall}
 use Rattle.frames.proofs.Positions.{feedingAt, feeding-start, dead-some, feeding-dead-at, feeding-waits-at, waits-room, feeding-whole-at, feeding-ends-at}
 use Rattle.frames.proofs.Stretches.{feeding-headless-at}
@@ -111,16 +111,11 @@ returns-2 c =
           ∙ ap (λ (k : ℕ). withoutFrame (k - length (a p)) (slice (from p) k (a p ++ b p)) (from p)) (c .if1 .taken);
     }
 
-missing-requires : tie.Need-missing-requires Inv-loop μ-loop
-missing-requires c κs =
-    let p = c .before .before .before in
-    (omega arith, (omega arith, sym (p .front-at .ensures) ∙ c .before .enum-told3 .given .1))
-
-sub-clip : tie.Need-sub-clip Inv-loop μ-loop
-sub-clip c = omega arith
+sub-smaller : tie.Need-sub-smaller Inv-loop μ-loop
+sub-smaller c = omega arith
 
 -- where the bytes up to the next test are taken, as far as they are there
-module _ (c : tie.After-clip Inv-loop μ-loop) where
+module _ (c : tie.After-smaller Inv-loop μ-loop) where
   abbrev p : tie.After-front-at Inv-loop μ-loop
   p = c .before .before .before .before .before
 
@@ -128,16 +123,19 @@ module _ (c : tie.After-clip Inv-loop μ-loop) where
   v = a p ++ b p
 
   abbrev k : ℕ
-  k = c .clip .result
+  k = c .smaller .result
+
+  undecided : Missing v (from p) (to p) (c .before .missing .result)
+  undecided = c .before .missing .ensures (omega arith) (omega arith) (sym (p .front-at .ensures) ∙ c .before .before .before .enum-told3 .given .1)
 
   some : 0 < k
-  some = omega (arith, c .before .missing .ensures .some)
+  some = omega (arith, undecided .some)
 
   there : to p + k ≤ length v
   there = omega (arith, length-append (a p) (b p))
 
   stays : (t : ℕ) → to p ≤ t → t < to p + k → frontOf (slice (from p) t v) ≡ Open
-  stays t h j = c .before .missing .ensures .undecided t h (omega arith) (omega (arith, there))
+  stays t h j = undecided .undecided t h (omega arith) (omega (arith, there))
 
 add-to : tie.Need-add-to Inv-loop μ-loop
 add-to c = omega arith
@@ -157,5 +155,5 @@ feeding-spec =
     tie.close
     (tie.spec
     Inv-loop μ-loop add-all loop-holds (λ c κs. search needs) (λ c. search needs) returns (λ c. search needs) add-next-head-of
-    next-head-of-requires (λ c κs. search needs) loop-less loop-again (λ c. search needs) returns-2 missing-requires sub-clip
+    next-head-of-requires (λ c κs. search needs) loop-less loop-again (λ c. search needs) returns-2 (λ c κs. search needs) sub-smaller
     (λ c κs. search needs) add-to loop-less-2 loop-again-2)

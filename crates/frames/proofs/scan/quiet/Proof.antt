@@ -7,8 +7,8 @@ use Prim.Native.Nat.{ℕ, _+_, _-_, _≤_}
 use native.Mathlib.Omega.{arith}
 use lib.ListN.{length, drop}
 use lib.Seq.{drop-length}
-use Rattle.frames.specs.declared.front.Front.{Front}
-use Rattle.frames.specs.Fronts.{frontOf, isWhole}
+use Rattle.fronts.specs.declared.front.Front.{Front}
+use Rattle.fronts.specs.Fronts.{frontOf, isWhole}
 use Rattle.frames.specs.Scans.{Headless}
 use Rattle.frames.specs.LiveReading.{withFrame, withoutFrame, quietCall}
 use Rattle.frames.proofs.Turns.{quiet-whole, quiet-ends}

@@ -4,7 +4,7 @@ use mathlib.Core.Path.{ap₂}
 use Prim.Native.Nat.{ℕ}
 use native.Mathlib.Omega.{arith}
 use lib.Bits.{bitOr, bitXor}
-use Rattle.frames.specs.Frame.{head1, head2}
+use Rattle.fronts.specs.Frame.{head1, head2}
 use Rattle.frames.proofs.search.head.Statement.{statement}
 use Rattle.frames.proofs.search.head.Tie as tie
 

@@ -14,7 +14,7 @@ module _ (c : tie.After-first-head) where
   near : Headless (start .args .s .now) (start .args .from) (start .args .to) (c .first-head .result)
   near =
       let o = start .args in
-      headless-farther (o .s .now) (o .from) (c .before .clip .result) (o .to) (c .first-head .result) (omega arith) (c .first-head .ensures)
+      headless-farther (o .s .now) (o .from) (c .before .smaller .result) (o .to) (c .first-head .result) (omega arith) (c .first-head .ensures)
 
 returns : tie.Need-returns
 returns c = near (c .before)

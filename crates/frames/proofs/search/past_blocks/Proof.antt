@@ -16,9 +16,6 @@ abbrev μ-loop : tie.MeasureT-loop
 loop-holds : tie.Need-loop-holds Inv-loop μ-loop
 loop-holds c = let o = c .before .args in headless-none (o .s .now) (o .from) (o .to) (omega arith)
 
-returns : tie.Need-returns Inv-loop μ-loop
-returns c = c .before .before .before .loop .inv
-
 loop-again : tie.Need-loop-again Inv-loop μ-loop
 loop-again c =
     let l = c .before .before .before in
@@ -28,12 +25,9 @@ loop-again c =
     headless-join (o .s .now) (o .from) (o .to) i (i + blockSize) (l .loop .inv)
     (headless-farther (o .s .now) i (i + blockSize + 1) (o .to) (i + blockSize) (omega arith) block)
 
-returns-2 : tie.Need-returns-2 Inv-loop μ-loop
-returns-2 c = c .before .loop .inv
-
 pub past-blocks-spec : {M : Type 1} → statement M
 past-blocks-spec =
     tie.close
     (tie.spec
-    Inv-loop μ-loop loop-holds (λ c. search needs) (λ c κs. search needs) returns (λ c. search needs) (λ c. search needs)
-    loop-again returns-2)
+    Inv-loop μ-loop loop-holds (λ c. search needs) (λ c κs. search needs)
+    (λ c. c .before .before .before .loop .inv) (λ c. search needs) (λ c. search needs) loop-again (λ c. c .before .loop .inv))

@@ -7,7 +7,7 @@ use Prim.Native.Nat.{ℕ, _+_, _-_, _≤_}
 use native.Mathlib.Omega.{arith}
 use lib.ListN.{length, take, drop, length-set}
 use lib.Seq.{length-take-le}
-use Rattle.frames.specs.Frame.{maxData, headerSize, frameSize, Frame, unsummed, encode}
+use Rattle.fronts.specs.Frame.{maxData, headerSize, frameSize, Frame, unsummed, encode}
 use Rattle.frames.specs.Buffer.{writable, writtenSize, writtenRoom}
 use Rattle.frames.proofs.Writes.{writable-fits, unwritable-long, unwritable-narrow, copied, unsummed-take, same-size, finished}
 use Rattle.frames.proofs.writer.write.Statement.{statement}
@@ -38,13 +38,13 @@ module _ (c : tie.After-copy) where
   fits = omega arith
 
   abbrev headed : List ℕ
-  headed = c .before .before .before .before .write .last .1 .1 .1 .0
+  headed = c .before .before .before .before .write-header .last .1 .1 .1 .0
 
   abbrev filled : List ℕ
   filled = take 6 headed ++ (c .copy .last .1 .0 ++ drop (6 + n - 6) (drop 6 headed))
 
   filled-is : filled ≡ unsummed f ++ drop (headerSize + n) (room start)
-  filled-is = copied f (room start) fits (6 + n - 6) headed (c .copy .last .1 .0) (omega arith) (c .before .before .before .before .write .ensures) (c .copy .ensures .1)
+  filled-is = copied f (room start) fits (6 + n - 6) headed (c .copy .last .1 .0) (omega arith) (c .before .before .before .before .write-header .ensures) (c .copy .ensures .1)
 
 returns : tie.Need-returns
 unfolding writtenSize writtenRoom

@@ -13,7 +13,9 @@ unfolding resumeAt
 returns c = simp (lt-ltb _ _ (c .if1 .taken))
 
 slice-aggregate-checksum : tie.Need-slice-aggregate-checksum
-slice-aggregate-checksum c = sym (length-take-le (c .before .before .before .args .r .stored) (c .before .before .before .args .image .now) (omega arith))
+slice-aggregate-checksum c =
+    let a = c .before .before .before .args in
+    sym (length-take-le (a .r .stored) (a .image .now) (omega arith))
 
 returns-2 : tie.Need-returns-2
 unfolding resumeAt

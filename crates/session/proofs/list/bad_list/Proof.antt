@@ -3,8 +3,8 @@ use borrow.Author.Needs.{needs}
 use mathlib.Core.Path.{_≡_, sym, _∙_}
 use Prim.Native.Nat.{_≤_, _-_}
 use borrow.Author.Tests.{lt-ltb, le-ltb}
-use Rattle.commands.specs.Search.{find}
-use Rattle.commands.proofs.Searches.{find-start, find-miss, find-yes, find-no}
+use Rattle.sequences.specs.Search.{find}
+use Rattle.sequences.proofs.Searches.{find-start, find-miss, find-yes, find-no}
 use Rattle.session.specs.Boards.{badBoard, badList}
 use Rattle.session.proofs.list.bad_list.Statement.{statement}
 use Rattle.session.proofs.list.bad_list.Tie as tie

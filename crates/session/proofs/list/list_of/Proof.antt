@@ -1,11 +1,10 @@
 -- `session::list::list_of` meets its contract. The loop's invariant: the unused places are zero up to place i. Assumes nothing.
 use borrow.Author.Needs.{needs}
 use mathlib.Core.Path.{_≡_, ap, _∙_}
-use mathlib.Core.List.{List}
+use mathlib.Core.List.{List, _++_}
 use Prim.Native.Nat.{_≤_, _-_}
 use native.Mathlib.Omega.{arith}
 use lib.ListN.{length, set, take, replicate}
-use mathlib.Core.List.{_++_}
 use Rattle.transfer.specs.declared.board.Board.{Board}
 use Rattle.session.specs.Boards.{listOf}
 use Rattle.session.proofs.Lists.{filled, filled-none, filled-next, filled-all}

@@ -4,8 +4,8 @@ use mathlib.Core.Path.{_≡_, sym, _∙_}
 use Prim.Native.Nat.{_≤_, _-_}
 use native.Mathlib.Omega.{arith}
 use borrow.Author.Tests.{eq-eqb, ne-eqb}
-use Rattle.commands.specs.Search.{find}
-use Rattle.commands.proofs.Searches.{find-start, find-hit, find-miss, find-end}
+use Rattle.sequences.specs.Search.{find}
+use Rattle.sequences.proofs.Searches.{find-start, find-hit, find-miss, find-end}
 use Rattle.session.specs.Boards.{hasChannel, placeOf}
 use Rattle.session.proofs.list.place_of.Statement.{statement}
 use Rattle.session.proofs.list.place_of.Tie as tie

@@ -4,9 +4,9 @@ use mathlib.Core.Path.{_≡_, sym, ap, ap₂, _∙_}
 use mathlib.Core.List.{List}
 use Prim.Native.Nat.{ℕ, _+_, _*_, _≤_, _-_}
 use native.Mathlib.Omega.{arith}
-use Rattle.frames.specs.Finished.{padded}
+use Rattle.sequences.specs.Padding.{padded}
 use Rattle.transfer.specs.declared.board.Board.{Board}
-use Rattle.frames.specs.Places.{writtenAt}
+use Rattle.sequences.specs.Places.{writtenAt}
 use Rattle.session.specs.Report.{boardBytes, boardsBytes, maxReport, reportBytes}
 use Rattle.session.proofs.Reports.{soFar, soFar-none, soFar-next, soFar-all}
 use Rattle.session.proofs.report.report_data.Statement.{statement}
@@ -28,7 +28,7 @@ loop-again c =
       search needs,
       c .with-board .ensures
           ∙ ap₂ (λ (x : List ℕ) (b : Board). writtenAt x (1 + 7 * l .i) (boardBytes b)) (l .inv .1) (c .before .board-at .ensures)
-          ∙ soFar-next maxReport (a .boards) (a .count) (l .i),
+          ∙ soFar-next maxReport (a .boards) (a .count) (l .i) (omega arith),
     )
 
 returns : tie.Need-returns Inv-loop μ-loop

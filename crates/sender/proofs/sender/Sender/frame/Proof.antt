@@ -1,7 +1,11 @@
 -- `sender::sender::Sender::frame` meets its contract. Assumes nothing.
 use borrow.Author.Needs.{needs}
+use mathlib.Core.Path.{_≡_, sym, ap, _∙_}
+use Rattle.frames.specs.Finished.{finished}
+use Rattle.frames.specs.LiveReading.{noFrame}
 use Rattle.frames.proofs.FinishedFrames.{no-data}
 use Rattle.sender.specs.Requests.{requestOf}
+use Rattle.sender.proofs.Phases.{final-choice, left-final}
 use Rattle.sender.proofs.sender.Sender.frame.Statement.{statement}
 use Rattle.sender.proofs.sender.Sender.frame.Tie as tie
 
@@ -27,17 +31,17 @@ returns-5 c = simp (c .before .enum-told5 .given .1, c .fe .ensures)
 
 returns-6 : tie.Need-returns-6
 unfolding requestOf
-returns-6 c = simp (c .before .enum-told6 .given .1, c .empty .ensures) (no-data 0 0)
-
-returns-7 : tie.Need-returns-7
-unfolding requestOf
-returns-7 c = simp (c .before .enum-told7 .given .1, c .empty2 .ensures) (no-data 0 0)
+returns-6 c =
+    let a = c .before .before .before .before .args in
+    let phase = a .self .position .phase in
+    let none : requestOf (a .self) (a .image .now) ≡ noFrame =
+    final-choice phase _ _ _ _ _ noFrame (left-final phase (c .before .match .keys6)) in
+    c .empty .ensures ∙ no-data 0 0 ∙ sym (ap finished none)
 
 pub frame-spec : {M : Type 1} → statement M
 frame-spec =
     tie.close
     (tie.spec
-    (λ c. search needs) (λ c. search needs) (λ c κs. search needs) (λ c. search needs) (λ c κs. search needs) (λ c. search needs)
-    (λ c κs. search needs) (λ c. search needs) (λ c κs. search needs) (λ c. search needs) (λ c κs. search needs)
-    (λ c. search needs) (λ c κs. search needs) (λ c. search needs) (λ c κs. search needs) returns returns-2 returns-3 returns-4
-    returns-5 returns-6 returns-7)
+    (λ c. search needs) (λ c. search needs) (λ c κs. search needs) (λ c. search needs) (λ c κs. search needs)
+    (λ c. search needs) (λ c κs. search needs) (λ c. search needs) (λ c κs. search needs) (λ c. search needs)
+    (λ c κs. search needs) (λ c κs. search needs) returns returns-2 returns-3 returns-4 returns-5 returns-6)

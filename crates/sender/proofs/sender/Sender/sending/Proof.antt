@@ -5,6 +5,7 @@ use mathlib.Core.List.{List}
 use Prim.Native.Nat.{ℕ}
 use lib.ListN.{take, drop}
 use Rattle.crc.specs.Crc.{checksum, crc16-modbus}
+use Rattle.frames.specs.declared.finished.FinishedFrame.{FinishedFrame}
 use Rattle.frames.specs.Finished.{finished}
 use Rattle.commands.specs.Limits.{maxPacket}
 use Rattle.commands.specs.RequestFrames.{dataFD, requestFrame}
@@ -21,10 +22,14 @@ returns c =
     let size = c .before .before .before .next-size in
     let part = c .before .before .part in
     let crc = c .before .modbus in
-    let packet : part .result .now ≡ nextPacket s image = part .ensures ∙ ap (λ (n : ℕ). take n (drop (s .place) image)) (size .ensures) in
+    let made : ℕ → ℕ → List ℕ → FinishedFrame =
+    λ n k q.
+    finished (requestFrame 0xFD (dataFD (record { channel = s .offer .channel; number = s .position .number; size = n; crc = k }) q)) in
+    let packet : part .result .now ≡ nextPacket s image =
+    part .ensures ∙ ap (λ (n : ℕ). take n (drop (s .position .place) image)) (size .ensures) in
     c .fd .ensures
-    ∙ ap (λ (q : List ℕ). finished (requestFrame 0xFD (dataFD (record { channel = s .channel; number = s .number; size = size .result; crc = crc .result }) (take maxPacket q)))) packet
-    ∙ ap₂ (λ (n k : ℕ). finished (requestFrame 0xFD (dataFD (record { channel = s .channel; number = s .number; size = n; crc = k }) (take maxPacket (nextPacket s image))))) (size .ensures) (crc .ensures ∙ ap (checksum crc16-modbus) packet)
+    ∙ ap (λ (q : List ℕ). made (size .result) (crc .result) (take maxPacket q)) packet
+    ∙ ap₂ (λ (n k : ℕ). made n k (take maxPacket (nextPacket s image))) (size .ensures) (crc .ensures ∙ ap (checksum crc16-modbus) packet)
     ∙ ap (λ (q : List ℕ). finished (requestFrame 0xFD (dataFD (sendingOf s image) q))) (packet-whole s image)
 
 pub sending-spec : {M : Type 1} → statement M

@@ -1,9 +1,7 @@
 -- `session::session::Session::portion` meets its contract. Assumes nothing.
 use borrow.Author.Needs.{needs}
-use mathlib.Core.Path.{sym, _∙_}
 use borrow.Author.Tests.{eq-eqb, ne-eqb}
 use Rattle.session.specs.Checking.{checked}
-use Rattle.session.proofs.Lawfuls.{lawful-sound}
 use Rattle.session.proofs.session.Session.portion.Statement.{statement}
 use Rattle.session.proofs.session.Session.portion.Tie as tie
 
@@ -14,10 +12,6 @@ returns c = simp (← c .before .before .unlawful .ensures, c .before .if1 .take
 returns-2 : tie.Need-returns-2
 unfolding checked
 returns-2 c = simp (← c .before .before .before .before .unlawful .ensures, c .before .before .before .if1 .left, ne-eqb _ _ (c .before .if2 .taken), c .refused2 .ensures)
-
-portion-requires : tie.Need-portion-requires
-portion-requires c κs =
-    (lawful-sound _ _ (sym (c .before .before .before .before .before .unlawful .ensures) ∙ c .before .before .before .before .if1 .left) (c .before .before .if2 .left), c .if3 .taken)
 
 returns-3 : tie.Need-returns-3
 unfolding checked
@@ -31,5 +25,5 @@ pub portion-spec : {M : Type 1} → statement M
 portion-spec =
     tie.close
     (tie.spec
-    (λ c κs. search needs) (λ c κs. search needs) returns (λ c κs. search needs) returns-2 portion-requires (λ c κs. search needs)
+    (λ c κs. search needs) (λ c κs. search needs) returns (λ c κs. search needs) returns-2 (λ c κs. search needs) (λ c κs. search needs)
     returns-3 (λ c κs. search needs) returns-4)

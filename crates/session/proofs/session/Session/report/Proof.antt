@@ -7,7 +7,7 @@ use native.Mathlib.Omega.{arith}
 use borrow.Author.Tests.{lt-ltb}
 use lib.ListN.{length, take}
 use lib.Seq.{length-take-le}
-use Rattle.frames.specs.Frame.{Frame}
+use Rattle.fronts.specs.Frame.{Frame}
 use Rattle.frames.specs.Buffer.{writtenSize, writtenRoom}
 use Rattle.commands.specs.declared.table.Row.{Row}
 use Rattle.commands.proofs.Rows.{f9-version}

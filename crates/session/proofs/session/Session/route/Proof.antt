@@ -2,20 +2,20 @@
 use borrow.Author.Needs.{needs}
 use native.Mathlib.Omega.{arith}
 use borrow.Author.Tests.{eq-eqb, ne-eqb, lt-ltb, le-ltb}
-use Rattle.session.specs.Answering.{stepped, routed, routedArea}
-use Rattle.session.proofs.Lawfuls.{lawful-sound, lawful-count}
+use Rattle.session.specs.Answering.{stepped, routed}
+use Rattle.session.proofs.Lawfuls.{lawful-count}
 use Rattle.session.proofs.session.Session.route.Statement.{statement}
 use Rattle.session.proofs.session.Session.route.Tie as tie
 
 returns : tie.Need-returns
-unfolding routed routedArea
+unfolding routed
 returns c = let is = eq-eqb _ _ (c .before .if1 .taken) in (rw is (c .unchanged .ensures), rw is)
 
 place-for-requires : tie.Need-place-for-requires
-place-for-requires c κs = lawful-count _ (c .before .before .before .pre .0)
+place-for-requires c κs = lawful-count _ (c .before .before .before .pre)
 
 returns-2 : tie.Need-returns-2
-unfolding routed routedArea
+unfolding routed
 returns-2 c =
     let not-f9 = ne-eqb _ _ (c .before .before .before .before .if1 .left) in
     let place = c .before .before .before .place-for .ensures .0 in
@@ -23,7 +23,7 @@ returns-2 c =
     (simp (not-f9, ← place, unlisted, c .unchanged2 .ensures), simp (not-f9, ← place, unlisted))
 
 returns-3 : tie.Need-returns-3
-unfolding routed routedArea
+unfolding routed
 returns-3 c =
     let not-f9 = ne-eqb _ _ (c .before .before .before .before .before .if1 .left) in
     let place = c .before .before .before .before .place-for .ensures .0 in
@@ -32,13 +32,10 @@ returns-3 c =
     (simp (not-f9, ← place, listed, runs, c .unchanged3 .ensures), simp (not-f9, ← place, listed, runs))
 
 board-at-requires : tie.Need-board-at-requires
-board-at-requires c κs = omega (arith, lawful-count _ (c .before .before .before .before .before .before .before .before .pre .0))
-
-respond-requires : tie.Need-respond-requires
-respond-requires c κs = lawful-sound _ _ (c .before .before .before .before .before .before .before .before .before .before .pre .0) (c .before .before .before .before .before .before .before .before .before .before .pre .1)
+board-at-requires c κs = omega (arith, lawful-count _ (c .before .before .before .before .before .before .before .before .pre))
 
 returns-4 : tie.Need-returns-4
-unfolding routed routedArea
+unfolding routed
 returns-4 c =
     let not-f9 = ne-eqb _ _ (c .before .before .before .before .before .before .before .before .before .before .before .if1 .left) in
     let place = c .before .before .before .before .before .before .before .before .before .before .place-for .ensures .0 in
@@ -46,11 +43,11 @@ returns-4 c =
     let still = c .before .before .before .before .before .before .before .if3 .left in
     let board = c .before .before .before .before .before .board-at .ensures in
     let step = c .before .before .before .respond .ensures in
-    (simp (not-f9, ← place, listed, still, c .stepped .ensures, step .0, board), simp (not-f9, ← place, listed, still, step .1))
+    (simp (not-f9, ← place, listed, still, c .stepped .ensures, step .0, board), simp (not-f9, ← place, listed, still, step .1, board))
 
 pub route-spec : {M : Type 1} → statement M
 route-spec =
     tie.close
     (tie.spec
     (λ c κs. search needs) returns place-for-requires (λ c κs. search needs) returns-2 (λ c κs. search needs) returns-3
-    board-at-requires respond-requires (λ c κs. search needs) (λ c. search needs) returns-4)
+    board-at-requires (λ c κs. search needs) (λ c κs. search needs) (λ c. search needs) returns-4)

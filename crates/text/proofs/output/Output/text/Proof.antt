@@ -21,7 +21,7 @@ returns-2 c =
     let room = c .before .before .before .with-room .ensures in
     record {
       waits = simp (short, room .waits);
-      stands = simp (short, ← room .waits, c .before .put .ensures);
+      stands = simp (short, ← room .waits, c .before .write2 .ensures);
       fails = room .fails;
       unwritten = room .unwritten;
     }

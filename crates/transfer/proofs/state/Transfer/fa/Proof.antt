@@ -6,15 +6,28 @@ use Rattle.transfer.proofs.state.Transfer.fa.Tie as tie
 
 returns : tie.Need-returns
 unfolding answerFA
-returns c = simp (← c .before .before .before .refused .ensures, c .before .before .if1 .taken, c .before .fa .ensures, c .replied .ensures)
+returns c =
+    simp (
+      ← c .before .before .before .refused .ensures,
+      c .before .before .if1 .taken,
+      c .before .fa .ensures,
+      c .replied .ensures,
+    )
 
 returns-2 : tie.Need-returns-2
 unfolding answerFA
-returns-2 c = simp (← c .before .before .before .before .before .refused .ensures, c .before .before .before .before .if1 .left, ← c .before .before .before .agreed .ensures, c .before .before .asked .ensures, c .before .fa2 .ensures, c .replied2 .ensures)
+returns-2 c =
+    simp (
+      ← c .before .before .before .before .refused .ensures,
+      c .before .before .before .if1 .left,
+      c .before .before .asked .ensures,
+      c .before .fa2 .ensures,
+      c .replied2 .ensures,
+    )
 
 pub fa-spec : {M : Type 1} → statement M
 fa-spec =
     tie.close
     (tie.spec
     (λ c κs. search needs) (λ c κs. search needs) (λ c κs. search needs) returns (λ c κs. search needs) (λ c κs. search needs)
-    (λ c κs. search needs) (λ c κs. search needs) returns-2)
+    (λ c κs. search needs) returns-2)

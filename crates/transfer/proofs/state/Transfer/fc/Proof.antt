@@ -10,7 +10,15 @@ returns c = simp (← c .before .before .not-started .ensures, c .before .if1 .t
 
 returns-2 : tie.Need-returns-2
 unfolding answerFC
-returns-2 c = simp (← c .before .before .before .before .before .before .not-started .ensures, c .before .before .before .before .before .if1 .left, ← c .before .before .before .start-of .ensures, c .before .before .with-progress .ensures, c .before .fc .ensures, c .replied .ensures)
+returns-2 c =
+    simp (
+      ← c .before .before .before .before .before .not-started .ensures,
+      c .before .before .before .before .if1 .left,
+      ← c .before .before .before .start-of .ensures,
+      c .before .before .started-at .ensures,
+      c .before .fc .ensures,
+      c .replied .ensures,
+    )
 
 pub fc-spec : {M : Type 1} → statement M
 fc-spec =

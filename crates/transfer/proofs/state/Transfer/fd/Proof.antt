@@ -4,52 +4,56 @@ use mathlib.Core.Path.{_≡_, sym, ap, _∙_}
 use mathlib.Core.Bool.{Bool, _&&_}
 use mathlib.Core.List.{List}
 use Prim.Native.Nat.{ℕ}
-use native.Mathlib.Omega.{arith}
 use lib.Dec.{eqb}
 use Rattle.commands.specs.declared.request.RequestFD.{RequestFD}
 use Rattle.transfer.specs.declared.state.Transfer.{Transfer}
-use Rattle.transfer.specs.FD.{stateFD, takes, answerFD, areaFD}
+use Rattle.transfer.specs.declared.state.Step.{Step}
+use Rattle.commands.specs.Replies.{replyState}
+use Rattle.transfer.specs.Transfers.{replied, Effect}
+use Rattle.transfer.specs.FD.{stateFD, takes, afterPacket}
 use Rattle.transfer.proofs.Packets.{taken, takes-next}
+use Rattle.transfer.proofs.Results.{effect-taken, effect-not-taken}
 use Rattle.transfer.proofs.state.Transfer.fd.Statement.{statement}
 use Rattle.transfer.proofs.state.Transfer.fd.Tie as tie
 
 -- what was tested is whether the packet is taken
-is-taken : (t : Transfer) (r : RequestFD) (p area : List ℕ) (state : ℕ) (b : Bool) → state ≡ stateFD t r p area → b ≡ (eqb state 0 && eqb (r .number) (t .next)) → takes t r p area ≡ b
-is-taken t r p area state b e f = sym (takes-next t r p area) ∙ ap (λ (n : ℕ). eqb n 0 && eqb (r .number) (t .next)) (sym e) ∙ sym f
-
-write-at-requires : tie.Need-write-at-requires
-write-at-requires c κs =
-    let a = c .before .before .before .before .before .before .before .before .args in
-    let takes-it = is-taken (a .self) (a .r) (a .packet .now) (a .area .now) _ _ (c .before .before .before .before .packet-state .ensures) (c .before .before .stores .ensures) ∙ c .before .if1 .taken in
-    omega (arith, c .before .before .before .before .before .before .before .before .pre .image-fits, taken (a .self) (a .r) (a .packet .now) (a .area .now) takes-it .fits)
+is-taken : (t : Transfer) (r : RequestFD) (p area : List ℕ) (state : ℕ) (b : Bool) → state ≡ stateFD t r p area
+    → b ≡ (eqb state 0 && eqb (r .number) (t .leg .next)) → takes t r p area ≡ b
+is-taken t r p area state b e f =
+    sym (takes-next t r p area) ∙ ap (λ (n : ℕ). eqb n 0 && eqb (r .number) (t .leg .next)) (sym e) ∙ sym f
 
 after-packet-requires : tie.Need-after-packet-requires
 after-packet-requires c κs =
-    let a = c .before .before .before .before .before .before .before .before .before .before .before .args in
-    let takes-it = is-taken (a .self) (a .r) (a .packet .now) (a .area .now) _ _ (c .before .before .before .before .before .before .before .packet-state .ensures) (c .before .before .before .before .before .stores .ensures) ∙ c .before .before .before .before .if1 .taken in
-    (taken (a .self) (a .r) (a .packet .now) (a .area .now) takes-it .fits, c .before .before .before .before .before .before .before .before .before .before .before .pre .number-fits)
+    let o = c .before .before .before .before .before .before .before .before .args in
+    let it = is-taken (o .self) (o .r) (o .packet .now) (o .area .now) _ _ (c .before .before .before .before .packet-state .ensures) (c .before .before .stores .ensures) in
+    taken (o .self) (o .r) (o .packet .now) (o .area .now) (it ∙ c .before .if1 .taken) .within
 
 returns : tie.Need-returns
-unfolding answerFD areaFD
 returns c =
-    let a = c .before .before .before .before .before .before .before .before .before .before .before .before .before .args in
-    let takes-it = is-taken (a .self) (a .r) (a .packet .now) (a .area .now) _ _ (c .before .before .before .before .before .before .before .before .before .packet-state .ensures) (c .before .before .before .before .before .before .before .stores .ensures) ∙ c .before .before .before .before .before .before .if1 .taken in (
-      simp (takes-it, ← c .before .before .before .before .before .before .before .before .before .packet-state .ensures, c .before .before .before .before .before .before .before .before .state .ensures, c .before .after-packet .ensures, c .replied .ensures),
-      simp (takes-it, c .before .before .before .before .write-at .ensures),
-    )
+    let tested = c .before .before .before .before .before in
+    let o = tested .before .before .before .before .before .before .before .args in
+    let state = tested .before .before .before .packet-state .ensures in
+    let it = is-taken (o .self) (o .r) (o .packet .now) (o .area .now) _ _ state (tested .before .stores .ensures) ∙ tested .if1 .taken in
+    let effect = effect-taken (o .self) (o .r) (o .packet .now) (o .area .now) it in
+    let stored = c .before .before .before .after-packet .ensures in
+    let given : c .replied .result ≡ replied (afterPacket (o .self) (o .packet .now) (o .area .now)) (replyState (o .r .channel) (stateFD (o .self) (o .r) (o .packet .now) (o .area .now))) =
+    simp (← state, tested .before .before .state .ensures, stored .0, c .replied .ensures) in
+    (given ∙ sym (ap (λ (x : Effect Step). x .gives) effect), stored .1 ∙ sym (ap (λ (x : Effect Step). x .area) effect))
 
 returns-2 : tie.Need-returns-2
-unfolding answerFD areaFD
 returns-2 c =
-    let a = c .before .before .before .before .before .before .before .before .args in
-    let takes-it = is-taken (a .self) (a .r) (a .packet .now) (a .area .now) _ _ (c .before .before .before .before .packet-state .ensures) (c .before .before .stores .ensures) ∙ c .before .if1 .left in (
-      simp (takes-it, ← c .before .before .before .before .packet-state .ensures, c .before .before .before .state .ensures, c .replied2 .ensures),
-      simp takes-it,
-    )
+    let tested = c .before in
+    let o = tested .before .before .before .before .before .before .before .args in
+    let state = tested .before .before .before .packet-state .ensures in
+    let it = is-taken (o .self) (o .r) (o .packet .now) (o .area .now) _ _ state (tested .before .stores .ensures) ∙ tested .if1 .left in
+    let effect = effect-not-taken (o .self) (o .r) (o .packet .now) (o .area .now) it in
+    let given : c .replied2 .result ≡ replied (o .self) (replyState (o .r .channel) (stateFD (o .self) (o .r) (o .packet .now) (o .area .now))) =
+    simp (← state, tested .before .before .state .ensures, c .replied2 .ensures) in
+    (given ∙ sym (ap (λ (x : Effect Step). x .gives) effect), sym (ap (λ (x : Effect Step). x .area) effect))
 
 pub fd-spec : {M : Type 1} → statement M
 fd-spec =
     tie.close
     (tie.spec
-    (λ c κs. search needs) (λ c κs. search needs) (λ c κs. search needs) write-at-requires after-packet-requires
-    (λ c κs. search needs) (λ c. search needs) returns (λ c κs. search needs) (λ c. search needs) returns-2)
+    (λ c κs. search needs) (λ c κs. search needs) (λ c κs. search needs) after-packet-requires (λ c κs. search needs)
+    (λ c. search needs) returns (λ c κs. search needs) (λ c. search needs) returns-2)

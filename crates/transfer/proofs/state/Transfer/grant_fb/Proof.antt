@@ -1,21 +1,21 @@
 -- `transfer::state::Transfer::grant_fb` meets its contract. Assumes nothing.
 use borrow.Author.Needs.{needs}
-use mathlib.Core.Path.{sym}
-use native.Mathlib.Omega.{arith}
-use lib.Seq.{length-take-le}
 use Rattle.transfer.specs.FB.{grantFB}
 use Rattle.transfer.proofs.state.Transfer.grant_fb.Statement.{statement}
 use Rattle.transfer.proofs.state.Transfer.grant_fb.Tie as tie
 
-slice-aggregate-checksum : tie.Need-slice-aggregate-checksum
-slice-aggregate-checksum c = sym (length-take-le _ _ (omega arith))
-
 returns : tie.Need-returns
 unfolding grantFB
-returns c = simp (← c .before .before .before .before .after-fb .ensures .0, ← c .before .before .checksum .ensures, c .before .fb .ensures, c .replied .ensures)
+returns c =
+    simp (
+      ← c .before .before .before .before .after-fb .ensures,
+      ← c .before .before .checksum .ensures,
+      c .before .fb .ensures,
+      c .replied .ensures,
+    )
 
 pub grant-fb-spec : {M : Type 1} → statement M
 grant-fb-spec =
     tie.close
     (tie.spec
-    (λ c κs. search needs) slice-aggregate-checksum (λ c κs. search needs) (λ c κs. search needs) (λ c κs. search needs) returns)
+    (λ c κs. search needs) (λ c κs. search needs) (λ c κs. search needs) (λ c κs. search needs) returns)

@@ -1,5 +1,7 @@
 -- `transfer::state::Transfer::wrong_size` meets its contract. Assumes nothing.
 use borrow.Author.Needs.{needs}
+use Prim.Native.Nat.{_+_}
+use native.Mathlib.Omega.{arith}
 use Rattle.transfer.proofs.Packets.{room-left}
 use borrow.Author.Tests.{lt-ltb, le-ltb, eq-eqb, ne-eqb}
 use Rattle.transfer.proofs.state.Transfer.wrong_size.Statement.{statement}
@@ -12,19 +14,32 @@ returns-2 : tie.Need-returns-2
 returns-2 c = simp (eq-eqb _ _ (c .before .before .if1 .left), eq-eqb _ _ (c .if2 .taken))
 
 returns-3 : tie.Need-returns-3
-returns-3 c = simp (eq-eqb _ _ (c .before .before .before .before .before .if1 .left), ne-eqb _ _ (c .before .before .before .if2 .left), lt-ltb _ _ (c .if3 .taken))
+returns-3 c =
+    simp (
+      eq-eqb _ _ (c .before .before .before .before .before .if1 .left),
+      ne-eqb _ _ (c .before .before .before .if2 .left),
+      lt-ltb _ _ (c .if3 .taken),
+    )
 
 returns-4 : tie.Need-returns-4
 returns-4 c =
-    let o = c .before .before .before .before .before .before .before .before .before in
-    let t = o .args .self in
-    let n = o .args .r .size in
+    let o = c .before .before .before .before .before .before .before .before .args in
     simp (
-      room-left (t .image .announced) (t .stored) n (o .pre),
+      eq-eqb _ _ (c .before .before .before .before .before .before .if1 .left),
+      ne-eqb _ _ (c .before .before .before .before .if2 .left),
+      le-ltb _ _ (c .before .if3 .left),
+      lt-ltb (o .self .image .announced) (o .self .progress .stored + o .r .size) (omega arith),
+    )
+
+returns-5 : tie.Need-returns-5
+returns-5 c =
+    let o = c .before .before .before .before .before .before .before .before .before .args in
+    simp (
+      room-left (o .self .image .announced) (o .self .progress .stored) (o .r .size) (c .before .if4 .left),
       eq-eqb _ _ (c .before .before .before .before .before .before .before .if1 .left),
       ne-eqb _ _ (c .before .before .before .before .before .if2 .left),
       le-ltb _ _ (c .before .before .if3 .left),
     )
 
 pub wrong-size-spec : {M : Type 1} → statement M
-wrong-size-spec = tie.close (tie.spec returns returns-2 returns-3 (λ c. search needs) returns-4)
+wrong-size-spec = tie.close (tie.spec returns returns-2 returns-3 returns-4 returns-5)

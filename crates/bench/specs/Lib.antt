@@ -1,0 +1,3 @@
+-- The definitions that the contracts of `bench` cite.
+pub mod Boards
+pub mod Portions

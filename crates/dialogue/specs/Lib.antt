@@ -1,0 +1,2 @@
+-- The definitions that the contracts of `dialogue` cite.
+pub mod Starts

@@ -1,0 +1,2 @@
+-- The laws that the functions' own files cite.
+mod Openings

@@ -1,3 +1,0 @@
--- The laws that the functions' own files cite.
-pub mod Digits
-pub mod Openings

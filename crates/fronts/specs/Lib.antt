@@ -1,0 +1,3 @@
+-- The definitions that the contracts of `fronts` cite: 01, "The frame" and "Live reading".
+pub mod Frame
+pub mod Fronts

@@ -1,3 +1,0 @@
--- The laws that the functions' own files cite.
-pub mod Adding
-pub mod Turns

@@ -1,0 +1,18 @@
+-- `slicing32::at` meets its contract: the tables' rule at (n, x). Assumes nothing.
+use borrow.Author.Needs.{needs}
+use Rattle.crc.specs.Crc.{crc32}
+use Rattle.crc.proofs.Tables.{two-nibbles}
+use Rattle.slicing32.proofs.at.Statement.{statement}
+use Rattle.slicing32.proofs.at.Tie as tie
+
+returns : tie.Need-returns
+returns c =
+    let o = c .before .before in
+    two-nibbles crc32 16 _ (o .pre .1) (o .args .n) (o .args .x) (o .pre .0) (search needs)
+
+pub at-spec : {M : Type 1} → statement M
+at-spec =
+    tie.close
+    (tie.spec
+    (λ c. search needs) (λ c. search needs) (λ c. search needs) (λ c. search needs) (λ c. search needs) (λ c. search needs)
+    (λ c. search needs) (λ c. search needs) (λ c. search needs) (λ c. search needs) (λ c. search needs) returns)
