@@ -1,4 +1,4 @@
--- 01: the limits that both ends of the service share. Assumes nothing.
+-- 01: the limits, for both ends of the service. Assumes nothing.
 use Prim.Native.Nat.{ℕ}
 
 -- FA: flag 1 "if .. Len1 is below 16"

@@ -21,7 +21,7 @@ wrongHeader = 3
 abbrev pub unlistedChannel : ℕ
 unlistedChannel = 4
 
--- "reply room below 33 bytes"; of the sending end: "next request: room below 526 bytes"
+-- "reply room below 33 bytes"; docs/SENDER.md, of the sending end: "next request: room below 526 bytes"
 abbrev pub shortRoom : ℕ
 shortRoom = 5
 
@@ -61,10 +61,10 @@ noCheckRuns = 18
 abbrev pub unfinished : ℕ
 unfinished = 19
 
--- 02, K3, of the sending end: "opening: size below 16, or the image empty or above 1,048,576. Calls: the image's length is not the record's"
+-- 02, K3, as docs/SENDER.md has it for the sending end: "opening: size below 16, or the image empty or above 1,048,576. Calls: the image's length is not the record's"
 abbrev pub wrongImage : ℕ
 wrongImage = 20
 
--- "not exactly one whole frame; or phase done or given up; or a field that 01 never gives there"
+-- likewise: "not exactly one whole frame; or phase done or given up; or a field that 01 never gives there"
 abbrev pub wrongReply : ℕ
 wrongReply = 21

@@ -1,7 +1,7 @@
 -- 01, "How the session answers": the states in the controller's replies, by command, and FA's flag. Assumes nothing.
 use Prim.Native.Nat.{ℕ}
 
--- every command: granted; FE: "Otherwise 00, phase done"
+-- every command that has a state: granted; FE: "Otherwise 00, phase done"
 abbrev pub granted : ℕ
 granted = 0
 

@@ -1,6 +1,6 @@
 // The states in the controller's replies, by command, with document 01's words. They stand in the place of FA's flag too. `specs/States`
 // has the same numbers.
-// Every command: granted; FE: the image is whole and its CRC-32 is right.
+// Every command that has a state: granted; FE: the image is whole and its CRC-32 is right.
 pub const GRANTED: u8 = 0;
 
 // "Flag 1 if the board has no permit or Len1 is below 16"

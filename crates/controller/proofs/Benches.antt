@@ -1,4 +1,4 @@
--- The bench benchTable holds, by computation from the definitions of a call. Assumes nothing.
+-- The bench table holds, by computation from the definitions of a call. Assumes nothing.
 use mathlib.Core.Path.{_≡_, refl}
 use mathlib.Core.List.{map}
 use Rattle.crc.specs.Crc.{bit, bits, byteStep, update, finish, checksum, crc16-modbus, crc32}

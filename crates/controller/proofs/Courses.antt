@@ -28,7 +28,7 @@ use Rattle.session.specs.declared.check.Checked.{Checked}
 use Rattle.session.specs.Lawful.{unlawful}
 use Rattle.session.specs.Checking.{checked}
 use Rattle.session.proofs.Lawfuls.{lawful}
-use Rattle.session.proofs.Kept.{withTransfer}
+use Rattle.session.specs.Transfers.{withTransfer}
 use Rattle.session.proofs.Checks.{dueOf, unended, finished-by}
 use Rattle.controller.specs.declared.record.Record.{Record}
 use Rattle.controller.specs.Records.{unlawfulRecord, isChecking}

@@ -30,7 +30,7 @@ use Rattle.session.specs.Lawful.{unlawful}
 use Rattle.session.specs.Answering.{stepped, placeFor, answered, areaAfter, byHeader}
 use Rattle.session.specs.OneGo.{inOneGo}
 use Rattle.session.specs.EndRequest.{IsEndRequest, Complete}
-use Rattle.session.proofs.Kept.{withTransfer}
+use Rattle.session.specs.Transfers.{withTransfer}
 use Rattle.session.proofs.EndRequests.{fe-header, fe-area, unlisted-incomplete, starts-at-crc, complete-reaches, early-answers, started-complete}
 use Rattle.session.proofs.Checks.{StartedBy, started-by, started-lawful, started-due, dueOf}
 use Rattle.controller.specs.declared.record.Record.{Record}

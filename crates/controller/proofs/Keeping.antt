@@ -30,7 +30,8 @@ use Rattle.session.specs.declared.session.Session.{Session}
 use Rattle.session.specs.declared.check.Checked.{Checked}
 use Rattle.session.specs.Lawful.{unlawful}
 use Rattle.session.specs.Checking.{refusedCheck, checked}
-use Rattle.session.proofs.Kept.{withTransfer, answer-keeps, area-size}
+use Rattle.session.specs.Transfers.{withTransfer}
+use Rattle.session.proofs.Kept.{answer-keeps, area-size}
 use Rattle.session.proofs.Checks.{dueOf, unended, finished-by}
 use Rattle.controller.specs.declared.record.Record.{Record}
 use Rattle.controller.specs.Calls.{minRoom, refusalOf}

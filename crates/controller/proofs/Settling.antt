@@ -19,7 +19,7 @@ use Rattle.session.specs.declared.answer.Answer.{Answer}
 use Rattle.commands.specs.Outcomes.{accepted}
 use Rattle.session.specs.Checking.{outcomeOf}
 use Rattle.session.specs.OneGo.{inOneGo}
-use Rattle.session.proofs.Kept.{withTransfer}
+use Rattle.session.specs.Transfers.{withTransfer}
 use Rattle.session.proofs.Checks.{started-by, dueOf, started-due}
 use Rattle.controller.specs.Calls.{minRoom, replySizeOf, replyRoomOf, replyIn}
 use Rattle.controller.specs.Leaving.{stateFrame, verdictState}

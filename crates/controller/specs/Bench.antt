@@ -1,4 +1,4 @@
--- 01, "Frames from the bench", as one benchTable: for each benchRow the frames fed before, each of which must be answered, then what is done and
+-- 01, "Frames from the bench", as one table: for each row the frames fed before, each of which must be answered, then what is done and
 -- everything that is to be seen of it. The rows behind P8's go on to the end check and its portions (document 02, K5). Assumes nothing.
 use mathlib.Core.Bool.{Bool, true, _&&_}
 use mathlib.Core.List.{List, [], _∷_, _++_}

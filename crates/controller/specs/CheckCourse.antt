@@ -13,6 +13,7 @@ use Rattle.frames.specs.LiveReading.{Call, fedBy}
 use Rattle.image.specs.declared.check.Verdict.{Verdict}
 use Rattle.image.specs.declared.check.Verdict.the-variants.{Unfinished, Right, Wrong}
 use Rattle.transfer.specs.Portions.{unread}
+use Rattle.session.specs.Transfers.{ownTransfer}
 use Rattle.session.specs.declared.session.Session.{Session}
 use Rattle.commands.specs.Outcomes.{accepted, unlistedCommand, wrongHeader, unlistedChannel, checkRuns}
 use Rattle.session.specs.Answering.{placeFor, byHeader, headerOfFrame}
@@ -137,7 +138,7 @@ pub record Ends (n m : ℕ) (x : Course) : Type 0 where
 abbrev pub CheckEnds : Type 0
 CheckEnds =
     (r : Record) → unlawfulRecord r ≡ false → isChecking r ≡ true → (cs : List Later)
-    → Ends (unread (r .session .transfer)) (bytesAsked (r .session .opened) cs) (course cs (courseFrom r))
+    → Ends (unread (ownTransfer (r .session))) (bytesAsked (r .session .opened) cs) (course cs (courseFrom r))
 
 -- in portions of k bytes it is finished by the m-th exactly when m times k is not below what was unread: by that divided by k, rounded up;
 -- in portions of no bytes never
@@ -145,4 +146,4 @@ abbrev pub EndsInPortions : Type 0
 EndsInPortions =
     (r : Record) → unlawfulRecord r ≡ false → isChecking r ≡ true → (k m : ℕ) (c : Later) → c .kind ≡ portion k
     → lendsEnough (r .session .opened) c ≡ true
-    → (isGiven (course (replicate m c) (courseFrom r) .verdict) ≡ true) ↔ (unread (r .session .transfer) ≤ m * k)
+    → (isGiven (course (replicate m c) (courseFrom r) .verdict) ≡ true) ↔ (unread (ownTransfer (r .session)) ≤ m * k)

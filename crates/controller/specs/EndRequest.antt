@@ -18,6 +18,7 @@ use Rattle.transfer.specs.Portions.{unread, rightCrc}
 use Rattle.commands.specs.Outcomes.{accepted, unlistedChannel, checkRuns}
 use Rattle.session.specs.Answering.{placeFor}
 use Rattle.session.specs.OneGo.{inOneGo}
+use Rattle.session.specs.Transfers.{transferOn, ownTransfer}
 use Rattle.session.specs.EndRequest.{IsEndRequest, Complete}
 use Rattle.controller.specs.declared.record.Record.{Record}
 use Rattle.controller.specs.Records.{unlawfulRecord, isChecking}
@@ -35,22 +36,22 @@ pub record Starts (r : Record) (y : CallLeaves) : Type 0 where
   pub no-reply : y .called .«reply_length» ≡ 0
   pub lawful : unlawfulRecord (y .called .next) ≡ false
   pub runs : isChecking (y .called .next) ≡ true
-  pub all-unread : unread (y .called .next .session .transfer) ≡ r .session .transfer .image .announced
+  pub all-unread : unread (ownTransfer (y .called .next .session)) ≡ ownTransfer (r .session) .image .announced
 
 -- the check has not come to its end: no reply yet, and nothing but the check's own fields has changed in the session
 pub record NotYet (r : Record) (x : Course) : Type 0 where
   pub unfinished : x .verdict ≡ Unfinished
   pub no-reply : x .replies ≡ []
-  pub same-session : x .at .session ≡ checkingOn (r .session) (x .at .session .transfer .check)
+  pub same-session : x .at .session ≡ checkingOn (r .session) (ownTransfer (x .at .session) .check)
 
 -- it has: "its verdict is that of the check in one go", and so are the only reply and the session; the reply is success exactly when
 -- demand 2 says so
 pub record AsInOneGo (r : Record) (f : FinishedFrame) (channel : ℕ) (area : List ℕ) (x : Course) : Type 0 where
-  pub verdict : x .verdict ≡ cond (rightCrc (r .session .transfer) area) Right Wrong
-  pub all-read : x .read ≡ r .session .transfer .image .announced
+  pub verdict : x .verdict ≡ cond (rightCrc (ownTransfer (r .session)) area) Right Wrong
+  pub all-read : x .read ≡ ownTransfer (r .session) .image .announced
   pub reply : x .replies ≡ encode (replyFrame 0xFE (inOneGo (r .session) f area .reply)) ∷ []
   pub session : x .at .session ≡ inOneGo (r .session) f area .session
-  pub success : (x .replies ≡ successFrame channel ∷ []) ↔ Complete (r .session .transfer) channel area
+  pub success : (x .replies ≡ successFrame channel ∷ []) ↔ Complete (transferOn (r .session) channel) channel area
 
 -- of the call y that ended at the end request f, on the record r
 pub record EndAnswered (r : Record) (f : FinishedFrame) (channel : ℕ) (area : List ℕ) (y : CallLeaves) : Type 0 where
@@ -58,19 +59,19 @@ pub record EndAnswered (r : Record) (f : FinishedFrame) (channel : ℕ) (area : 
   pub same-area : y .area ≡ area
   -- one that does not get as far as the CRC starts no check and has its reply now, if any: not success, and not everything holds that
   -- demand 2 asks for
-  pub at-once : reachesCrc (r .session .transfer) channel ≡ false
+  pub at-once : reachesCrc (transferOn (r .session) channel) channel ≡ false
       → (isChecking (y .called .next) ≡ false)
       × ((replyIn (y .called .«reply_length») (y .room) ≡ successFrame channel ∷ [] → ⊥)
-      × (Complete (r .session .transfer) channel area → ⊥))
+      × (Complete (transferOn (r .session) channel) channel area → ⊥))
   -- one that does starts a check and has no reply yet
-  pub starts : reachesCrc (r .session .transfer) channel ≡ true → Starts r y
+  pub starts : reachesCrc (transferOn (r .session) channel) channel ≡ true → Starts r y
   -- then every list of calls, refused ones included, by how many bytes they ask for: at first whatever memory they lend,
-  pub before : reachesCrc (r .session .transfer) channel ≡ true → (cs : List Later)
-      → bytesAsked (length area) cs < r .session .transfer .image .announced → NotYet r (course cs (courseFrom (y .called .next)))
+  pub before : reachesCrc (transferOn (r .session) channel) channel ≡ true → (cs : List Later)
+      → bytesAsked (length area) cs < ownTransfer (r .session) .image .announced → NotYet r (course cs (courseFrom (y .called .next)))
   -- and in the end if it has the image's bytes
-  pub finally : reachesCrc (r .session .transfer) channel ≡ true → (cs : List Later)
-      → LendSameImage (r .session .transfer .image .announced) area cs
-      → r .session .transfer .image .announced ≤ bytesAsked (length area) cs
+  pub finally : reachesCrc (transferOn (r .session) channel) channel ≡ true → (cs : List Later)
+      → LendSameImage (ownTransfer (r .session) .image .announced) area cs
+      → ownTransfer (r .session) .image .announced ≤ bytesAsked (length area) cs
       → AsInOneGo r f channel area (course cs (courseFrom (y .called .next)))
 
 -- a feeding or quiet call that is not refused and ends at an end request, while no check runs
@@ -91,4 +92,4 @@ EndRequestMeetsCheck =
     f .found ≡ true → IsEndRequest (f .frame) channel
     → (c .«reply_length» ≡ 0)
     × ((c .outcome ≡ cond (ltb (placeFor (r .session) (f .frame)) (r .session .count)) checkRuns unlistedChannel)
-    × (c .outcome ≡ unlistedChannel → Complete (r .session .transfer) channel area → ⊥))
+    × (c .outcome ≡ unlistedChannel → Complete (transferOn (r .session) channel) channel area → ⊥))

@@ -9,6 +9,7 @@ use lib.ListN.{length, drop}
 use lib.Seq.{slice}
 use Rattle.fronts.specs.Frame.{encode}
 use Rattle.frames.specs.LiveReading.{Call, heldBytes, holding, called, fedBy}
+use Rattle.commands.specs.States.{granted, refusedFE}
 use Rattle.commands.specs.Replies.{replyState}
 use Rattle.image.specs.declared.check.Check.{Check}
 use Rattle.transfer.specs.declared.board.Board.{Board}
@@ -18,6 +19,7 @@ use Rattle.transfer.specs.declared.state.Transfer.{Transfer}
 use Rattle.image.specs.Checks.{noCheck, portionSize, readOn, verdictOf}
 use Rattle.transfer.specs.Transfers.{withCheck}
 use Rattle.transfer.specs.Portions.{unread, stepBy}
+use Rattle.session.specs.Transfers.{ownTransfer, withTransfer}
 use Rattle.session.specs.declared.session.Session.{Session}
 use Rattle.session.specs.Boards.{maxBoards}
 use Rattle.commands.specs.Outcomes.{accepted, shortRoom, otherArea, rulesBroken, noCheckRuns, unfinished}
@@ -61,12 +63,8 @@ Leaving = (c : Call) (rest : List ℕ) (r : Record) (room area : List ℕ) → O
 abbrev pub IsPortionRefusal : ℕ → Type 0
 IsPortionRefusal n = IsRefusal n ⊎ (n ≡ noCheckRuns)
 
--- the session with another transfer; with another check
-abbrev pub sessionWith : Session → Transfer → Session
-sessionWith s t = record { boards = s .boards; count = s .count; opened = s .opened; transfer = t }
-
 abbrev pub checkingOn : Session → Check → Session
-checkingOn s c = sessionWith s (withCheck (s .transfer) c)
+checkingOn s c = withTransfer s (withCheck (ownTransfer s) c)
 
 -- the frame FE, channel, state
 abbrev pub stateFrame : ℕ → ℕ → List ℕ
@@ -74,9 +72,9 @@ stateFrame channel state = encode (record { version = 0x00; command = 0xFE; payl
 
 -- "CRC-32 .. differs: 03 .. Otherwise 00"; nobody asks before the verdict
 abbrev pub verdictState : Verdict → ℕ
-verdictState Unfinished = 3
-verdictState Right = 0
-verdictState Wrong = 3
+verdictState Unfinished = refusedFE
+verdictState Right = granted
+verdictState Wrong = refusedFE
 
 -- a portion call that is not refused, on a running check of the transfer t
 pub record Counted (most : ℕ) (t : Transfer) (area : List ℕ) (x : PortionLeaves) : Type 0 where
@@ -85,7 +83,7 @@ pub record Counted (most : ℕ) (t : Transfer) (area : List ℕ) (x : PortionLea
   pub bytes : x .called .count ≡ length (slice (t .check .read) (t .check .read + x .called .count) area)
   pub says : x .called .verdict ≡ verdictOf (readOn (t .check) (x .called .count) area) (t .image .announced) (t .image .crc)
   -- what becomes of the transfer, "FE's changes" included
-  pub becomes : x .called .next .session .transfer ≡ stepBy (x .called .verdict) t (readOn (t .check) (x .called .count) area) .transfer
+  pub becomes : ownTransfer (x .called .next .session) ≡ stepBy (x .called .verdict) t (readOn (t .check) (x .called .count) area) .transfer
   -- 0 with the verdict, "before that it is 19"
   pub number : x .called .outcome ≡ outcomeOf (x .called .verdict)
 
@@ -101,19 +99,19 @@ pub record PortionOutcomes (most : ℕ) (r : Record) (room area : List ℕ) (x :
   -- 19: no reply, and the check's own fields alone change
   pub unfinished : x .called .outcome ≡ unfinished
       → (x .called .«reply_length» ≡ 0) × ((x .room ≡ room)
-      × (x .called .next ≡ record { reader = r .reader; session = checkingOn (r .session) (x .called .next .session .transfer .check) }))
+      × (x .called .next ≡ record { reader = r .reader; session = checkingOn (r .session) (ownTransfer (x .called .next .session) .check) }))
   -- "The call that reads the last byte gives the verdict and FE's reply .. and zeroes the check's own fields (outcome 0)"
   pub finished : x .called .outcome ≡ accepted
-      → (x .called .next .session .transfer .check ≡ noCheck)
-      × (replyIn (x .called .«reply_length») (x .room) ≡ stateFrame (r .session .transfer .leg .channel) (verdictState (x .called .verdict)) ∷ [])
+      → (ownTransfer (x .called .next .session) .check ≡ noCheck)
+      × (replyIn (x .called .«reply_length») (x .room) ≡ stateFrame (ownTransfer (r .session) .leg .channel) (verdictState (x .called .verdict)) ∷ [])
   -- "Room past a reply .. stay"
   pub past-reply : x .called .outcome ≡ accepted
-      → x .room ≡ stateFrame (r .session .transfer .leg .channel) (verdictState (x .called .verdict)) ++ drop (x .called .«reply_length») room
+      → x .room ≡ stateFrame (ownTransfer (r .session) .leg .channel) (verdictState (x .called .verdict)) ++ drop (x .called .«reply_length») room
   -- list and opened length stay on every outcome
-  pub same-list : x .called .next .session ≡ sessionWith (r .session) (x .called .next .session .transfer)
+  pub same-list : x .called .next .session ≡ withTransfer (r .session) (ownTransfer (x .called .next .session))
   -- "reports how many image bytes it read in this call"
   pub counted : refusalOf r (length room) (length area) ≡ accepted → isChecking r ≡ true
-      → Counted most (r .session .transfer) area x
+      → Counted most (ownTransfer (r .session)) area x
   -- "Portion calls leave what stands past the held bytes", and the held ones
   pub same-reader : x .called .next .reader ≡ r .reader
 
@@ -122,7 +120,6 @@ PortionLeaving = (most : ℕ) (r : Record) (room area : List ℕ) → PortionOut
 
 -- ---- a lawful record stays lawful
 
--- what is held and fed are bytes, so that a packet's number is below 65,536
 pub record LawfulKept : Type 0 where
   pub by-opening : (bs : List Board) (n area : ℕ) → length bs ≡ maxBoards → openedRecord bs n area .outcome ≡ accepted
       → unlawfulRecord (openedRecord bs n area .next) ≡ false

@@ -6,6 +6,7 @@ use lib.Dec.{ltb}
 use Rattle.fronts.specs.Frame.{maxFrame}
 use Rattle.frames.specs.LiveReading.{holding}
 use Rattle.transfer.specs.declared.board.Board.{Board}
+use Rattle.session.specs.Transfers.{ownTransfer}
 use Rattle.session.specs.declared.session.Session.{Session}
 use Rattle.session.specs.Opening.{noSession, freshSession, opened}
 use Rattle.session.specs.Lawful.{unlawful}
@@ -18,7 +19,7 @@ unlawfulRecord r = ltb maxFrame (r .reader .count) || unlawful (r .session)
 
 -- document 02, K5: an end check runs
 abbrev pub isChecking : Record → Bool
-isChecking r = r .session .transfer .check .running
+isChecking r = ownTransfer (r .session) .check .running
 
 -- a record that holds nothing, with zeros in the held places
 abbrev pub holdingNothing : Session → Record

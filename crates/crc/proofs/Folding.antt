@@ -1,6 +1,7 @@
 -- Folding, for every kind and every list of offsets: sweeping carries the register on (`swept-standing`), and so the last bytes swept,
 -- unswept, have the register of the whole message (`folded`). Assumes nothing.
 use mathlib.Core.Path.{_≡_, refl, sym, ap, ap₂, subst, _∙_}
+use mathlib.Core.Bool.{cond}
 use mathlib.Core.List.{List, [], _∷_, _++_, append-assoc}
 use Prim.Native.Nat.{ℕ, zero, suc, _+_, _-_, _≤_, _<_}
 use native.Mathlib.Nat.{add-zero}
@@ -12,6 +13,8 @@ use lib.Seq.{paste, length-paste, sets, sets-eq, take-at, drop-at, take-set-le, 
 use Rattle.crc.specs.Crc.{Kind, byteStep, update}
 use Rattle.crc.specs.Tables.{zeroBytes}
 use Rattle.crc.specs.Folding.{sumOver, Within, Multiple, gathered, swept, unswept, standing, Stands, Carries, met, unmet}
+use Rattle.crc.specs.Folding.{sweepable, movable}
+use Rattle.crc.proofs.Bounds.{sweeps, moves}
 use Rattle.crc.proofs.Xor.{xor-assoc, xor-medial}
 use Rattle.crc.proofs.Linear.{byte-none, byte-sum, update-from}
 use Rattle.crc.proofs.Meeting.{length-met, update-met}
@@ -284,13 +287,18 @@ module _ (k : Kind) (d : ℕ) (offs : List ℕ) (w : Within 1 d offs) where
 
   -- so it goes on over a part
   pub carries-part : Multiple k d offs → (part b c e : List ℕ) (n : ℕ) → length part ≡ n → BytesAt part → BytesAt b → d + d + n ≤ length b
-      → c ≡ swept offs (d + d) part b → e ≡ paste c d (drop (d + n) c) d → (length e ≡ length b) × Carries k d offs part b e
-  carries-part multiple part b c e n size small bytes fits sweeps moves =
-      let same : length c ≡ length b = ap length sweeps ∙ length-swept part b (d + d) in
+      → c ≡ cond (sweepable offs (d + d) (length part) (length b)) (swept offs (d + d) part b) b
+      → e ≡ cond (movable (d + n) d d (length c)) (paste c d (drop (d + n) c) d) c
+      → (length e ≡ length b) × Carries k d offs part b e
+  carries-part multiple part b c e n size small bytes fits swept-in moved-down =
+      let near = within-wider 1 d 1 (d + d) offs (omega arith) (omega arith) w in
+      let swept-all = sweeps offs part b c (d + d) near (omega arith) swept-in in
+      let same : length c ≡ length b = ap length swept-all ∙ length-swept part b (d + d) in
+      let moved-all = moves c e (d + n) d d (omega arith) (omega arith) moved-down in
       let enough : d ≤ length (drop (d + n) c) = rw length-drop (omega arith) in
       let there : paste (swept offs (d + d) part b) d (drop (d + length part) (swept offs (d + d) part b)) d ≡ e =
-      ap₂ (λ (l : List ℕ) (m : ℕ). paste l d (drop (d + m) l) d) (sym sweeps) size ∙ sym moves in (
-        ap length moves ∙ length-paste c d (drop (d + n) c) d (omega arith) enough ∙ same,
+      ap₂ (λ (l : List ℕ) (m : ℕ). paste l d (drop (d + m) l) d) (sym swept-all) size ∙ sym moved-all in (
+        ap length moved-all ∙ length-paste c d (drop (d + n) c) d (omega arith) enough ∙ same,
         λ r at. subst (Stands k d offs (update k r part)) there (stands-part multiple r part b small bytes (omega arith) at),
       )
 

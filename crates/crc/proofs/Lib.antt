@@ -8,6 +8,7 @@ pub mod Slicing
 pub mod Tables
 pub mod Meeting
 pub mod Folding
+pub mod Bounds
 pub mod Parts
 pub mod Multiples
 pub mod Vectors

@@ -1,35 +1,20 @@
--- Offsets lie within bounds, and are those of a multiple of the polynomial, where a test, which antt computes, says so. The multiple is
--- tested of one byte: the registers after the other bytes of one bit are its register some bits later, and all bytes are sums of these.
--- Assumes nothing.
+-- Offsets are those of a multiple of the polynomial where a test, which antt computes, says so. It is tested of one byte: the registers
+-- after the other bytes of one bit are its register some bits later, and all bytes are sums of these. Assumes nothing.
 use mathlib.Core.Path.{_≡_, refl, sym, ap, ap₂, subst, _∙_}
-use mathlib.Core.Bool.{Bool, true, _&&_}
+use mathlib.Core.Bool.{Bool}
 use mathlib.Core.List.{List, [], _∷_}
 use Prim.Native.Nat.{ℕ, zero, suc, _+_, _-_, _*_, _/_, _%_, _^_, _<_, _≤_}
 use native.Mathlib.Nat.{mod-lt, zero-mul, one-mul, mul-comm, pow-suc, div-lt-iff-lt-mul}
 use native.Mathlib.Omega.{arith}
 use lib.Bits.{bitXor, xor-self, xor-shifted}
-use lib.Dec.{T, eqb, eqb→eq, leb, leb→le, lit≤}
+use lib.Dec.{T, eqb, eqb→eq, lit≤}
 use lib.Pow.{pow-add, pow-lt, pow-pos, split}
 use Rattle.crc.specs.Crc.{Direction, normal, reflected, Kind, entering, bit, bits, byteStep}
 use Rattle.crc.specs.Tables.{zeroBytes}
-use Rattle.crc.specs.Folding.{sumOver, Within, Multiple}
+use Rattle.crc.specs.Folding.{sumOver, Multiple}
 use Rattle.crc.proofs.Xor.{xor-medial, of-bit}
 use Rattle.crc.proofs.Linear.{bit-xor, byte-none, byte-sum, zeroBytes-xor, zeroBytes-zero}
 use Rattle.crc.proofs.TableStep.{bits-normal, bits-reflected}
-use Rattle.crc.proofs.Tests.{and-left, and-right}
-
-unfoldable pub bounds-test : ℕ → ℕ → List ℕ → Bool
-bounds-test l m [] = true
-bounds-test l m (a ∷ os) = leb l a && (leb a m && bounds-test l m os)
-
-pub within : (l m : ℕ) (offs : List ℕ) → T (bounds-test l m offs) → Within l m offs
-unfolding bounds-test
-within l m [] t n h = absurd (omega arith)
-within l m (a ∷ os) t zero h =
-    let more = and-right (leb l a) (leb a m && bounds-test l m os) t in
-    (leb→le l a (and-left (leb l a) (leb a m && bounds-test l m os) t), leb→le a m (and-left (leb a m) (bounds-test l m os) more))
-within l m (a ∷ os) t (suc n) h =
-    within l m os (and-right (leb a m) (bounds-test l m os) (and-right (leb l a) (leb a m && bounds-test l m os) t)) n (omega arith)
 
 -- ---- a register some bits later: one step more first or last is the same
 

@@ -3,9 +3,11 @@
 -- checksum does.
 -- Assumes nothing.
 use mathlib.Core.Path.{_≡_}
+use mathlib.Core.Bool.{Bool, true, _&&_}
 use mathlib.Core.List.{List, [], _∷_}
 use Prim.Native.Nat.{ℕ, zero, suc, _+_, _-_, _≤_, _<_}
 use lib.Bits.{bitXor}
+use lib.Dec.{leb}
 use lib.ListN.{length, take, drop, getD, set, replicate}
 use Rattle.crc.specs.Crc.{Kind, byteStep, update}
 use Rattle.crc.specs.Tables.{zeroBytes, front, rest}
@@ -18,6 +20,11 @@ sumOver (a ∷ os) f = bitXor (f a) (sumOver os f)
 -- every offset is from least to most
 abbrev pub Within : ℕ → ℕ → List ℕ → Type 0
 Within least most offs = (n : ℕ) → n < length offs → (least ≤ getD offs n 0) × (getD offs n 0 ≤ most)
+
+-- the same as a test
+unfoldable pub allWithin : ℕ → ℕ → List ℕ → Bool
+allWithin least most [] = true
+allWithin least most (a ∷ os) = leb least a && (leb a most && allWithin least most os)
 
 -- In bytes, x^8d and the x^8(d - a), for each offset a, add up to a multiple of the polynomial: d bytes of zero after a byte leave the
 -- register that d - a of them do, added up over the offsets
@@ -37,6 +44,14 @@ swept offs p (x ∷ s) b = swept offs (p + 1) s (set b p (bitXor x (gathered off
 unfoldable pub unswept : List ℕ → ℕ → ℕ → List ℕ → List ℕ
 unswept offs p zero b = []
 unswept offs p (suc n) b = bitXor (getD b p 0) (gathered offs b p) ∷ unswept offs (p + 1) n b
+
+-- What is tested before anything is swept: n bytes from place p on lie in a buffer of that size, and no offset leads out of it
+unfoldable pub sweepable : List ℕ → ℕ → ℕ → ℕ → Bool
+sweepable offs p n size = allWithin 0 p offs && leb (p + n) size
+
+-- and before n bytes are moved down in one: they lie in it, and are to go no higher
+unfoldable pub movable : ℕ → ℕ → ℕ → ℕ → Bool
+movable from to n size = leb to from && leb (from + n) size
 
 -- the register that the first p swept bytes stand for
 abbrev pub standing : Kind → List ℕ → ℕ → List ℕ → ℕ

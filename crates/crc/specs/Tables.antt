@@ -1,5 +1,5 @@
--- What tables of precomputed registers hold, and the two parts of a register in a step by a table. Internal: the private functions of
--- the crates above cite these, no public contract does.
+-- What tables of precomputed registers hold, and the two parts of a register in a step by a table. Internal: the crates
+-- above cite these, no contract of a checksum does.
 -- Assumes nothing.
 use mathlib.Core.Path.{_≡_}
 use mathlib.Core.List.{List}

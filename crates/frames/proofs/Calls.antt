@@ -187,8 +187,3 @@ call-keeps quiet h rest =
 pub quiet-emptied : (h rest : List ℕ) → called quiet h rest .found ≡ false → called quiet h rest .held ≡ []
 unfolding called
 quiet-emptied h rest w = quiet-keeps h 0 .emptied w
-
--- what is offered is of what is not yet taken
-pub offered-within : (c : Call) (rest : List ℕ) → length (offered c rest) ≤ length rest
-offered-within (feeding n) rest = omega (arith, length-take n rest)
-offered-within quiet rest = omega arith

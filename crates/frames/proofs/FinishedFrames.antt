@@ -39,11 +39,6 @@ module _ (f : Frame) where
   unfolding finished
   frame-of-finished = ap (λ (p : List ℕ). record { version = f .version; command = f .command; payload = p }) (take-padded maxData (f .payload))
 
--- what is handed back in the place of a frame where there is none is all zero
-pub no-frame-zero : finished noFrame ≡ record { version = 0; command = 0; length = 0; bytes = zeros maxData }
-unfolding finished
-no-frame-zero = refl
-
 -- ---- made from its parts
 
 pub no-data : (version command : ℕ) → noData version command ≡ finished (record { version = version; command = command; payload = [] })

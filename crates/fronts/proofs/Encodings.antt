@@ -58,15 +58,6 @@ module _ (f : Frame) (s : List ℕ) where
             sum = last ∙ ap sumByte (sym front);
           }
 
-pub encode-bytes : (f : Frame) → FrameBytes f → length (f .payload) ≤ maxData → Bytes (encode f)
-unfolding encode unsummed
-encode-bytes f p small =
-    let L = length (f .payload) in
-    let high : L / 256 < 256 = omega arith in
-    let low : L % 256 < 256 = omega arith in
-    let sum : sumByte (unsummed f) < 256 = omega arith in
-    bytes-append (unsummed f) (sumByte (unsummed f) ∷ []) (omega arith, (omega arith, (p .version, (p .command, (high, (low, p .payload)))))) (sum, tt)
-
 -- ---- from a whole front to the frame and back
 
 -- the first six bytes of a whole front are the header of its frame

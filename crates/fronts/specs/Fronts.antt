@@ -1,5 +1,5 @@
 -- 01, "Live reading": what stands at the front of some bytes. "A whole frame", "a front that can no longer become a frame" (Dead),
--- or one that still may (Open). The tests are in the order of the bytes: a front is byTest as soon as the bytes for a test are there.
+-- or one that still may (Open). The tests are in the order of the bytes: a front is judged as soon as the bytes for a test are there.
 -- Assumes nothing.
 use mathlib.Core.Path.{_≡_}
 use mathlib.Core.Logic.{_↔_}

@@ -1,4 +1,4 @@
--- What is known where no call is nothingDecided. Assumes nothing.
+-- What is known where no call is refused. Assumes nothing.
 use mathlib.Core.Path.{_≡_, refl}
 use mathlib.Core.Bool.{Bool, true, false, cond}
 use Prim.Native.Nat.{ℕ}

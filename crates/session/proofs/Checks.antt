@@ -39,7 +39,8 @@ use Rattle.session.specs.Checking.{checkedBy, checked}
 use Rattle.session.specs.OneGo.{inOneGo}
 use Rattle.session.proofs.Lawfuls.{lawful, lawful-accepted}
 use Rattle.session.proofs.Headers.{by-header}
-use Rattle.session.proofs.Kept.{withTransfer, fe-kept}
+use Rattle.session.specs.Transfers.{withTransfer}
+use Rattle.session.proofs.Kept.{fe-kept}
 use Rattle.session.proofs.TableFrames.{is-fe}
 
 false-true : {A : Type 0} → false ≡ true → A

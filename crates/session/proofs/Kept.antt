@@ -37,6 +37,7 @@ use Rattle.transfer.proofs.Packets.{taken}
 use Rattle.session.specs.declared.session.Session.{Session}
 use Rattle.session.specs.declared.answer.Answer.{Answer}
 use Rattle.session.specs.Boards.{pastBoard, placeOf}
+use Rattle.session.specs.Transfers.{withTransfer}
 use Rattle.session.specs.Lawful.{unlawful, Lawful}
 use Rattle.session.specs.Answering.{unchanged, placeFor, effectOf, routed, headerOfFrame, judged, reaction, answered, areaAfter}
 use Rattle.session.proofs.Headers.{by-header}
@@ -44,10 +45,6 @@ use Rattle.session.proofs.Lawfuls.{lawful, lawful-accepted}
 
 false-true : {A : Type 0} → false ≡ true → A
 false-true e = let z : _≡_ {A = ℕ} 0 1 = cc in absurd (omega arith)
-
--- a session with another transfer
-abbrev pub withTransfer : Session → Transfer → Session
-withTransfer s t = record { boards = s .boards; count = s .count; opened = s .opened; transfer = t }
 
 positive : (n : ℕ) → (n ≡ 0 → ⊥) → 0 < n
 positive n h = omega arith

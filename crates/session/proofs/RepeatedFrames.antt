@@ -34,7 +34,8 @@ use Rattle.session.specs.Answering.{unchanged, stepped, within, placeFor
 use Rattle.session.specs.RepeatedFrame.{fieldsOf, packetIn, SessionAndArea, answerAt, thenFrame, thenFrames, TakenHere, OtherPackets, AnswersWith, RepeatedFrame}
 use Rattle.session.proofs.Headers.{by-header}
 use Rattle.session.proofs.Lawfuls.{lawful, lawful-inside}
-use Rattle.session.proofs.Kept.{withTransfer, answer-keeps, area-size}
+use Rattle.session.specs.Transfers.{withTransfer}
+use Rattle.session.proofs.Kept.{answer-keeps, area-size}
 
 -- ---- a frame FD reaches the transfer
 

@@ -25,6 +25,7 @@ use Rattle.session.specs.declared.session.Session.{Session}
 use Rattle.session.specs.declared.answer.Answer.{Answer}
 use Rattle.commands.specs.Outcomes.{accepted, unlistedCommand, wrongHeader, unlistedChannel, otherArea, rulesBroken, wrongPhase, checkRuns}
 use Rattle.session.specs.Boards.{pastBoard, placeOf}
+use Rattle.session.specs.Transfers.{transferOn, withTransfer}
 use Rattle.session.specs.Lawful.{unlawful}
 
 -- no reply, nothing changed
@@ -37,7 +38,7 @@ stepped s x =
     record {
       outcome = cond (x .answered) accepted wrongPhase;
       replies = x .replies;
-      session = record { boards = s .boards; count = s .count; opened = s .opened; transfer = x .transfer };
+      session = withTransfer s (x .transfer);
       reply = x .reply;
     }
 
@@ -63,9 +64,9 @@ unfoldable pub routed : Session → FinishedFrame → List ℕ → Effect Answer
 routed s f area =
     cond (eqb (f .command) 0xF9) (unwritten (unchanged accepted s) area)
     (cond (ltb (placeFor s f) (s .count))
-    (cond (s .transfer .check .running)
+    (cond (transferOn s (channelOf (f .bytes)) .check .running)
     (unwritten (unchanged checkRuns s) area)
-    (within s (effectOf (s .transfer) f (getD (s .boards) (placeFor s f) pastBoard) area)))
+    (within s (effectOf (transferOn s (channelOf (f .bytes))) f (getD (s .boards) (placeFor s f) pastBoard) area)))
     (unwritten (unchanged unlistedChannel s) area))
 
 -- outcomes 2 and 3

@@ -15,6 +15,7 @@ use Rattle.transfer.specs.Portions.{checkStep}
 use Rattle.session.specs.declared.session.Session.{Session}
 use Rattle.session.specs.declared.check.Checked.{Checked}
 use Rattle.commands.specs.Outcomes.{accepted, otherArea, rulesBroken, noCheckRuns, unfinished}
+use Rattle.session.specs.Transfers.{ownTransfer, withTransfer}
 use Rattle.session.specs.Lawful.{unlawful}
 
 abbrev pub outcomeOf : Verdict → ℕ
@@ -33,7 +34,7 @@ checkedBy s p =
       count = p .count;
       verdict = p .verdict;
       replies = p .step .replies;
-      session = record { boards = s .boards; count = s .count; opened = s .opened; transfer = p .step .transfer };
+      session = withTransfer s (p .step .transfer);
       reply = p .step .reply;
     }
 
@@ -41,4 +42,4 @@ unfoldable pub checked : Session → ℕ → List ℕ → Checked
 checked s most area =
     cond (unlawful s) (refusedCheck rulesBroken s)
     (cond (not (eqb (length area) (s .opened))) (refusedCheck otherArea s)
-    (cond (s .transfer .check .running) (checkedBy s (checkStep (s .transfer) most area)) (refusedCheck noCheckRuns s)))
+    (cond (ownTransfer s .check .running) (checkedBy s (checkStep (ownTransfer s) most area)) (refusedCheck noCheckRuns s)))

@@ -18,6 +18,7 @@ use Rattle.transfer.specs.Phases.{receivingOrDone}
 use Rattle.session.specs.declared.session.Session.{Session}
 use Rattle.session.specs.declared.answer.Answer.{Answer}
 use Rattle.commands.specs.Outcomes.{accepted}
+use Rattle.session.specs.Transfers.{transferOn}
 use Rattle.session.specs.Lawful.{unlawful}
 use Rattle.session.specs.OneGo.{inOneGo}
 
@@ -44,5 +45,5 @@ pub record SuccessIn (channel : ℕ) (a : Answer) : Type 0 where
 -- the claim: premises on the input alone
 abbrev pub EndRequest : Type 0
 EndRequest =
-    (s : Session) (f : FinishedFrame) (channel : ℕ) (area : List ℕ) → unlawful s ≡ false → length area ≡ s .opened → s .transfer .check .running ≡ false
-    → IsEndRequest f channel → SuccessIn channel (inOneGo s f area) ↔ Complete (s .transfer) channel area
+    (s : Session) (f : FinishedFrame) (channel : ℕ) (area : List ℕ) → unlawful s ≡ false → length area ≡ s .opened → transferOn s channel .check .running ≡ false
+    → IsEndRequest f channel → SuccessIn channel (inOneGo s f area) ↔ Complete (transferOn s channel) channel area

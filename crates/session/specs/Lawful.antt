@@ -14,6 +14,7 @@ use Rattle.transfer.specs.declared.state.Transfer.{Transfer}
 use Rattle.transfer.specs.Phases.{idle, hasImage, receivingOrDone}
 use Rattle.session.specs.declared.session.Session.{Session}
 use Rattle.session.specs.Boards.{placeOf, badList}
+use Rattle.session.specs.Transfers.{ownTransfer}
 use Rattle.session.specs.Opening.{badArea}
 
 -- "stored is above announced or announced above the opened length; next number is above 65,536"
@@ -43,22 +44,24 @@ badSessionFields t bs n =
 unfoldable pub unlawful : Session → Bool
 unlawful s =
     badList (s .boards) (s .count)
-    || (badArea (s .opened) || (badLengths (s .transfer) (s .opened) || (badLast (s .transfer) || (badCheck (s .transfer) || badSessionFields (s .transfer) (s .boards) (s .count)))))
+    || (badArea (s .opened)
+    || (badLengths (ownTransfer s) (s .opened)
+    || (badLast (ownTransfer s) || (badCheck (ownTransfer s) || badSessionFields (ownTransfer s) (s .boards) (s .count)))))
 
 -- The same as propositions, one to a rule; they are proved to hold exactly where `unlawful` is false.
 pub record Lawful (s : Session) : Type 0 where
   pub list : badList (s .boards) (s .count) ≡ false
   pub some-area : 1 ≤ s .opened
   pub small-area : s .opened ≤ maxArea
-  pub stored : s .transfer .progress .stored ≤ s .transfer .image .announced
-  pub announced : s .transfer .image .announced ≤ s .opened
-  pub number : s .transfer .leg .next ≤ maxNext
-  pub most-last : s .transfer .progress .last ≤ maxPacket
-  pub last-stored : s .transfer .progress .last ≤ s .transfer .progress .stored
-  pub check-unread : s .transfer .check .running ≡ true → s .transfer .check .read < s .transfer .image .announced
-  pub check-stored : s .transfer .check .running ≡ true → s .transfer .progress .stored ≡ s .transfer .image .announced
-  pub check-phase : s .transfer .check .running ≡ true → receivingOrDone (s .transfer .leg .phase) ≡ true
-  pub listed : idle (s .transfer .leg .phase) ≡ false → placeOf (s .boards) (s .count) (s .transfer .leg .channel) < s .count
-  pub least-size : idle (s .transfer .leg .phase) ≡ false → minPacket ≤ s .transfer .leg .agreed
-  pub most-size : idle (s .transfer .leg .phase) ≡ false → s .transfer .leg .agreed ≤ maxPacket
-  pub some-image : hasImage (s .transfer .leg .phase) ≡ true → 0 < s .transfer .image .announced
+  pub stored : ownTransfer s .progress .stored ≤ ownTransfer s .image .announced
+  pub announced : ownTransfer s .image .announced ≤ s .opened
+  pub number : ownTransfer s .leg .next ≤ maxNext
+  pub most-last : ownTransfer s .progress .last ≤ maxPacket
+  pub last-stored : ownTransfer s .progress .last ≤ ownTransfer s .progress .stored
+  pub check-unread : ownTransfer s .check .running ≡ true → ownTransfer s .check .read < ownTransfer s .image .announced
+  pub check-stored : ownTransfer s .check .running ≡ true → ownTransfer s .progress .stored ≡ ownTransfer s .image .announced
+  pub check-phase : ownTransfer s .check .running ≡ true → receivingOrDone (ownTransfer s .leg .phase) ≡ true
+  pub listed : idle (ownTransfer s .leg .phase) ≡ false → placeOf (s .boards) (s .count) (ownTransfer s .leg .channel) < s .count
+  pub least-size : idle (ownTransfer s .leg .phase) ≡ false → minPacket ≤ ownTransfer s .leg .agreed
+  pub most-size : idle (ownTransfer s .leg .phase) ≡ false → ownTransfer s .leg .agreed ≤ maxPacket
+  pub some-image : hasImage (ownTransfer s .leg .phase) ≡ true → 0 < ownTransfer s .image .announced

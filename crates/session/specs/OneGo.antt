@@ -9,11 +9,12 @@ use Rattle.transfer.specs.FE.{endedFE}
 use Rattle.transfer.specs.Portions.{rightCrc}
 use Rattle.session.specs.declared.session.Session.{Session}
 use Rattle.session.specs.declared.answer.Answer.{Answer}
+use Rattle.session.specs.Transfers.{ownTransfer}
 use Rattle.session.specs.Answering.{stepped, answered}
 
 -- s is a session whose check does not run: if one runs after the frame, the frame was that FE
 unfoldable pub inOneGo : Session → FinishedFrame → List ℕ → Answer
 inOneGo s f area =
     let a = answered s f area in
-    let t = a .session .transfer in
+    let t = ownTransfer (a .session) in
     cond (t .check .running) (stepped (a .session) (endedFE t (rightCrc t area))) a

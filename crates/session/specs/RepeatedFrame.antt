@@ -16,6 +16,7 @@ use Rattle.transfer.specs.FD.{takes}
 use Rattle.session.specs.declared.session.Session.{Session}
 use Rattle.session.specs.declared.answer.Answer.{Answer}
 use Rattle.commands.specs.Outcomes.{accepted}
+use Rattle.session.specs.Transfers.{transferOn}
 use Rattle.session.specs.Lawful.{unlawful}
 use Rattle.session.specs.Answering.{headerOfFrame, answered, areaAfter}
 
@@ -45,7 +46,7 @@ thenFrames x (f ∷ fs) = thenFrames (thenFrame x f) fs
 pub record TakenHere (x : SessionAndArea) (f : FinishedFrame) : Type 0 where
   pub command : f .command ≡ 0xFD
   pub header : headerOfFrame f ≡ Right
-  pub taken : takes (x .session .transfer) (fieldsOf f) (packetIn f) (x .area) ≡ true
+  pub taken : takes (transferOn (x .session) (fieldsOf f .channel)) (fieldsOf f) (packetIn f) (x .area) ≡ true
 
 -- frames FD, on whatever channel and with whatever bytes, none of this number
 abbrev pub OtherPackets : ℕ → List FinishedFrame → Type 0

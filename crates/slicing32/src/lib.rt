@@ -1,6 +1,7 @@
 // The register of CRC-32 over some bytes, by sixteen tables: each byte of a block has its table, and no lookup waits for another's result.
 //
-// What tables hold stands in specs/Tables.antt of the crate `crc`. The caller lends them.
+// What tables hold stands in specs/Tables.antt of the crate `crc`. The caller lends them. Nothing is asked of them: a function is safe
+// by any tables, and says what it answers by right ones (`Tabled`).
 ghost use mathlib.Core.Path.{_≡_};
 ghost use Prim.Native.Nat.{_<_, _≤_, _+_, _%_};
 ghost use lib.Bits.{bitXor};
@@ -10,8 +11,7 @@ ghost use Rattle.crc.specs.Tables.{zeroBytes, Tabled};
 
 // The register after the bytes of s.
 pub fn over(t: &[u32; 512], register: u32, s: &[u8]) -> u32
-    requires { ⌜ Tabled crc32 16 (now t) ⌝ }
-    ensures { λ r. ⌜ r ≡ update crc32 register (now (s .entry)) ⌝ }
+    ensures { λ r. ⌜ (Tabled crc32 16 (now (t .entry)) → r ≡ update crc32 register (now (s .entry))) ⌝ }
 {
     let mut c = register;
     let mut i = 0;
@@ -24,8 +24,7 @@ pub fn over(t: &[u32; 512], register: u32, s: &[u8]) -> u32
 
 // The same, a byte at a time: for what is left after the last block.
 fn one_by_one(t: &[u32; 512], register: u32, s: &[u8]) -> u32
-    requires { ⌜ Tabled crc32 16 (now t) ⌝ }
-    ensures { λ r. ⌜ r ≡ update crc32 register (now (s .entry)) ⌝ }
+    ensures { λ r. ⌜ (Tabled crc32 16 (now (t .entry)) → r ≡ update crc32 register (now (s .entry))) ⌝ }
 {
     let mut c = register;
     let mut i = 0;
@@ -38,8 +37,8 @@ fn one_by_one(t: &[u32; 512], register: u32, s: &[u8]) -> u32
 
 // The register after the 16 bytes at i. Only the first four meet the register, which has four bytes.
 fn block(t: &[u32; 512], register: u32, s: &[u8], i: usize) -> u32
-    requires { ⌜ (i + 16 ≤ length (now s)) × Tabled crc32 16 (now t) ⌝ }
-    ensures { λ r. ⌜ r ≡ update crc32 register (take 16 (drop i (now (s .entry)))) ⌝ }
+    requires { ⌜ i + 16 ≤ length (now s) ⌝ }
+    ensures { λ r. ⌜ (Tabled crc32 16 (now (t .entry)) → r ≡ update crc32 register (take 16 (drop i (now (s .entry))))) ⌝ }
 {
     let i1 = i + 4;
     let i2 = i1 + 4;
@@ -50,8 +49,9 @@ fn block(t: &[u32; 512], register: u32, s: &[u8], i: usize) -> u32
 
 // The register after the four bytes at i and n bytes of zero.
 fn four(t: &[u32; 512], n: usize, register: u32, s: &[u8], i: usize) -> u32
-    requires { ⌜ (n + 4 ≤ 16) × (i + 4 ≤ length (now s)) × Tabled crc32 16 (now t) ⌝ }
-    ensures { λ r. ⌜ r ≡ zeroBytes crc32 n (update crc32 register (take 4 (drop i (now (s .entry))))) ⌝ }
+    requires { ⌜ (n + 4 ≤ 16) × (i + 4 ≤ length (now s)) ⌝ }
+    ensures { λ r. ⌜ (Tabled crc32 16 (now (t .entry))
+        → r ≡ zeroBytes crc32 n (update crc32 register (take 4 (drop i (now (s .entry)))))) ⌝ }
 {
     let i1 = i + 1;
     let i2 = i1 + 1;
@@ -65,24 +65,23 @@ fn four(t: &[u32; 512], n: usize, register: u32, s: &[u8], i: usize) -> u32
 
 // The register after one byte.
 fn next(t: &[u32; 512], register: u32, b: u8) -> u32
-    requires { ⌜ Tabled crc32 16 (now t) ⌝ }
-    ensures { λ r. ⌜ r ≡ byteStep crc32 register b ⌝ }
+    ensures { λ r. ⌜ (Tabled crc32 16 (now (t .entry)) → r ≡ byteStep crc32 register b) ⌝ }
 {
     entry(t, 0, register, b) ^ (register / 256)
 }
 
 // The entry for the byte b, carried on over n bytes of zero.
 fn entry(t: &[u32; 512], n: usize, register: u32, b: u8) -> u32
-    requires { ⌜ (n < 16) × Tabled crc32 16 (now t) ⌝ }
-    ensures { λ r. ⌜ r ≡ zeroBytes crc32 n (byteStep crc32 0 (bitXor (register % 256) b)) ⌝ }
+    requires { ⌜ n < 16 ⌝ }
+    ensures { λ r. ⌜ (Tabled crc32 16 (now (t .entry)) → r ≡ zeroBytes crc32 n (byteStep crc32 0 (bitXor (register % 256) b))) ⌝ }
 {
     at(t, n, low(register) ^ b)
 }
 
 // Table n, at x: the sum of the entries of its nibbles.
 fn at(t: &[u32; 512], n: usize, x: u8) -> u32
-    requires { ⌜ (n < 16) × Tabled crc32 16 (now t) ⌝ }
-    ensures { λ r. ⌜ r ≡ zeroBytes crc32 n (byteStep crc32 0 x) ⌝ }
+    requires { ⌜ n < 16 ⌝ }
+    ensures { λ r. ⌜ (Tabled crc32 16 (now (t .entry)) → r ≡ zeroBytes crc32 n (byteStep crc32 0 x)) ⌝ }
 {
     let i = n * 32 + (x % 16) as usize;
     let j = n * 32 + 16 + (x / 16) as usize;

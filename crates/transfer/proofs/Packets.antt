@@ -1,4 +1,4 @@
--- What holds of a packet that is taken and of one that is repeated, and how a packet is written into the area. Assumes nothing.
+-- What holds of a packet that is taken and of one that is repeated. Assumes nothing.
 use mathlib.Core.Path.{_≡_, refl, sym, ap, _∙_}
 use mathlib.Core.List.{List}
 use Prim.Native.Nat.{ℕ, _+_, _-_, _≤_, _<_}

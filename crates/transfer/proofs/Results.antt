@@ -2,7 +2,7 @@
 use mathlib.Core.Path.{_≡_, refl, ap, _∙_}
 use mathlib.Core.Bool.{Bool, true, false, cond, not, _||_, _&&_}
 use mathlib.Core.List.{List, _++_}
-use Prim.Native.Nat.{ℕ, _+_, _<_}
+use Prim.Native.Nat.{ℕ, _+_, _≤_, _<_}
 use native.Mathlib.Omega.{arith}
 use borrow.Author.Tests.{ne-eqb}
 use lib.Dec.{eqb}
@@ -16,9 +16,12 @@ use Rattle.transfer.specs.declared.state.Step.{Step}
 use Rattle.transfer.specs.Phases.{receivingOrDone}
 use Rattle.transfer.specs.Identities.{noIdentity}
 use Rattle.transfer.specs.Transfers.{replaced, withCheck, otherChannel, replied, Effect, unwritten}
+use Rattle.sequences.proofs.Places.{written-fits}
+use Rattle.image.specs.declared.progress.Progress.{Progress}
 use Rattle.image.specs.Checks.{noCheck}
+use Rattle.image.proofs.Storing.{storing-fits}
 use Rattle.commands.specs.Limits.{maxNext}
-use Rattle.transfer.specs.FD.{repeats, stateFD, takes, afterPacket, areaWith, effectFD, answerFD, areaFD}
+use Rattle.transfer.specs.FD.{repeats, stateFD, takes, afterPacket, areaWith, effectFD, answerFD, areaFD, PacketStored, StoresPackets}
 use Rattle.transfer.specs.FE.{answerFE, endedFE}
 use Rattle.sequences.proofs.Conditionals.{of-both}
 use Rattle.transfer.proofs.Packets.{taken, taken-state}
@@ -45,6 +48,17 @@ module _ (t : Transfer) (r : RequestFD) (p area : List ℕ) where
       ap (λ (x : Effect Step). x .gives) (effect-taken e)
       ∙ ap (λ (n : ℕ). replied (afterPacket t p area) (replyState (r .channel) n)) (taken-state t r p area e)
 
+  pub stores-packet : t .image .announced ≤ length area → takes t r p area ≡ true → PacketStored t r p area
+  stores-packet inside e =
+      let there : t .progress .stored + length p ≤ length area = omega (arith, taken t r p area e .fits) in
+      let progress = ap (λ (x : Step). x .transfer .progress) (packet-counted e) ∙ storing-fits (t .progress) p area there in
+      record {
+        written = packet-stored e ∙ written-fits area p (t .progress .stored) there;
+        stored = ap (λ (q : Progress). q .stored) progress;
+        last = ap (λ (q : Progress). q .last) progress;
+        next = ap (λ (x : Step). x .transfer .leg .next) (packet-counted e);
+      }
+
   -- any other packet, repeated or refused, changes nothing: neither the area nor the transfer
   pub packet-not-taken : takes t r p area ≡ false → (areaFD t r p area ≡ area) × (answerFD t r p area ≡ replied t reply)
   packet-not-taken e = (ap (λ (x : Effect Step). x .area) (effect-not-taken e), ap (λ (x : Effect Step). x .gives) (effect-not-taken e))
@@ -57,6 +71,9 @@ module _ (t : Transfer) (r : RequestFD) (p area : List ℕ) where
   -- after number 65,535 no packet is next
   pub none-next : t .leg .next ≡ maxNext → takes t r p area ≡ true → ⊥
   none-next last e = let n = taken t r p area e .within in omega arith
+
+pub stores-packets : StoresPackets
+stores-packets = stores-packet
 
 -- ---- FE and the end of its check
 

@@ -3,11 +3,12 @@
 -- anything. Otherwise 00: the data is written from place stored on, into that part of the area only; stored grows by n, next number
 -- by 1." Between 04 and 01 stands document 02's test for a packet that is sent again because its reply was lost (K2). p is the packet's
 -- L - 7 bytes. Assumes nothing.
-use mathlib.Core.Bool.{Bool, cond, not, _||_, _&&_}
-use mathlib.Core.List.{List}
-use Prim.Native.Nat.{ℕ, _+_}
+use mathlib.Core.Path.{_≡_}
+use mathlib.Core.Bool.{Bool, true, cond, not, _||_, _&&_}
+use mathlib.Core.List.{List, _++_}
+use Prim.Native.Nat.{ℕ, _+_, _≤_}
 use lib.Dec.{ltb, eqb}
-use lib.ListN.{length}
+use lib.ListN.{length, take, drop}
 use Rattle.sequences.specs.Places.{writtenAt}
 use Rattle.crc.specs.Crc.{checksum, crc16-modbus}
 use Rattle.image.specs.Progresses.{storing, isLast}
@@ -79,3 +80,15 @@ answerFD t r p area = effectFD t r p area .gives
 
 abbrev pub areaFD : Transfer → RequestFD → List ℕ → List ℕ → List ℕ
 areaFD t r p area = effectFD t r p area .area
+
+-- The claim: a packet that is taken, in an area that has room for the announced image, is written "from place stored on, into that part
+-- of the area only; stored grows by n, next number by 1".
+pub record PacketStored (t : Transfer) (r : RequestFD) (p area : List ℕ) : Type 0 where
+  pub written : areaFD t r p area ≡ take (t .progress .stored) area ++ (p ++ drop (t .progress .stored + length p) area)
+  pub stored : answerFD t r p area .transfer .progress .stored ≡ t .progress .stored + length p
+  pub last : answerFD t r p area .transfer .progress .last ≡ length p
+  pub next : answerFD t r p area .transfer .leg .next ≡ t .leg .next + 1
+
+abbrev pub StoresPackets : Type 0
+StoresPackets =
+    (t : Transfer) (r : RequestFD) (p area : List ℕ) → t .image .announced ≤ length area → takes t r p area ≡ true → PacketStored t r p area

@@ -54,9 +54,9 @@ abbrev pub NoneOf : ℕ → List Packet → Type 0
 NoneOf number [] = Unit
 NoneOf number (k ∷ ks) = (k .request .number ≡ number → ⊥) × NoneOf number ks
 
--- what holds once packet k was accepted in leg x and the packets ks came after it
+-- what holds once packet k was accepted at x and the packets ks came after it
 pub record Repetition (x : TransferAndArea) (k : Packet) (ks : List Packet) : Type 0 where
-  -- the leg is as k left it
+  -- all is as k left it
   pub unmoved : thenPackets (thenPacket x k) ks ≡ thenPacket x k
   -- k again is answered 00
   pub answered-00 : answerToPacket (thenPackets (thenPacket x k) ks) k ≡ replied (thenPacket x k .transfer) (replyState (k .request .channel) 0)

@@ -12,6 +12,7 @@ ghost use mathlib.Core.Bool.{true, cond, not, _&&_};
 ghost use Prim.Native.Nat.{_+_, _<_};
 ghost use lib.Dec.{eqb};
 ghost use Rattle.commands.specs.Limits.{maxNext};
+ghost use Rattle.commands.specs.States.{granted, badCrcFD};
 ghost use Rattle.transfer.specs.FD.{notReceivingHere, repeats, notNext, wrongSize, wrongCrc, stateFD, numberedOn, afterPacket, areaWith, answerFD, areaFD};
 
 impl Leg {
@@ -80,7 +81,7 @@ impl Transfer {
 
     // Of the packets answered 00 the repeated one is not the next: its bytes stand in the area already.
     fn stores(self, r: RequestFD, state: u8) -> bool
-        ensures { λ x. ⌜ x ≡ (eqb state 0 && eqb (r .number) (self .leg .next)) ⌝ }
+        ensures { λ x. ⌜ x ≡ (eqb state granted && eqb (r .number) (self .leg .next)) ⌝ }
     {
         if state != state::GRANTED {
             return false;
@@ -154,7 +155,7 @@ impl Transfer {
 }
 
 fn crc_state(r: RequestFD, packet: &[u8]) -> u8
-    ensures { λ x. ⌜ x ≡ cond (wrongCrc r (now (packet .entry))) 3 0 ⌝ }
+    ensures { λ x. ⌜ x ≡ cond (wrongCrc r (now (packet .entry))) badCrcFD granted ⌝ }
 {
     if wrong_crc(r, packet) {
         return state::FD_BAD_CRC;

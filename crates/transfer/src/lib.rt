@@ -2,7 +2,7 @@
 //
 // Each command is a method of `Transfer` that takes it by value, with the request's fields, and hands back a `Step`: the next
 // transfer, the reply's data, and whether there is an answer at all, and one with a reply. `Transfer::portion` goes on with the end check
-// that FE starts. Any transfer, request and area is answered; nothing is asked of the caller. Nothing here knows the board list, a frame's
+// that FE starts. Any transfer, request and area is taken; nothing is asked of the caller. Nothing here knows the board list, a frame's
 // bytes or an outcome's number.
 pub mod board;
 pub mod check;

@@ -1,69 +1,32 @@
--- `folding::sweep` meets its contract. The loop's invariant: with the first i bytes swept, the others are still to be. Assumes nothing.
+-- `folding::sweep` meets its contract. Assumes nothing.
 use borrow.Author.Needs.{needs}
-use mathlib.Core.Path.{_≡_, refl, sym, ap, _∙_}
-use mathlib.Core.List.{List, []}
-use Prim.Native.Nat.{ℕ, _≤_, _-_, _+_}
-use native.Mathlib.Nat.{add-zero}
-use native.Mathlib.Omega.{arith}
-use lib.Bits.{bitXor}
-use lib.ListN.{length, drop, getD, length-set}
-use lib.Seq.{drop-length}
+use mathlib.Core.Path.{sym, ap, _∙_}
+use mathlib.Core.Bool.{Bool, cond}
+use lib.ListN.{length}
 use Rattle.crc.specs.Folding.{swept}
-use Rattle.folding.proofs.Turns.{swept-more}
+use Rattle.crc.proofs.Bounds.{sweepable-where}
 use Rattle.folding.proofs.sweep.Statement.{statement}
 use Rattle.folding.proofs.sweep.Tie as tie
 
-abbrev Inv-loop : tie.InvT-loop
-Inv-loop offsets at s b₀ i₀ b i = (i ≤ length s) × ((length b ≡ length b₀) × (swept offsets at s b₀ ≡ swept offsets (at + i) (drop i s) b))
+sweep-within-requires : tie.Need-sweep-within-requires
+sweep-within-requires c κs =
+    let o = c .before .before .before .before .before .before .args in
+    sweepable-where (o .offsets .now) (o .at) (length (o .s .now)) (length (o .b .now)) .0
+    (sym (c .before .before .sweepable .ensures) ∙ c .before .if1 .taken)
 
-abbrev μ-loop : tie.MeasureT-loop
-μ-loop offsets at s b₀ i₀ b i = length s - i
-
-loop-holds : tie.Need-loop-holds Inv-loop μ-loop
-loop-holds c =
-    let o = c .before .before .before in (
-      omega arith,
-      (
-        refl,
-        ap (λ (p : ℕ). swept (o .args .offsets .now) p (o .args .s .now) (o .args .b .now))
-            (sym (add-zero (o .args .at))),
-      ),
-    )
-
-gather-requires : tie.Need-gather-requires Inv-loop μ-loop
-gather-requires c κs =
-    let o = c .before .before .before .before .before .before in
-    let l = c .before .before .loop in
-    (λ n h. let near = o .pre .0 n h in (near .0, omega (arith, near)), omega (arith, l .inv .1 .0))
-
-loop-again : tie.Need-loop-again Inv-loop μ-loop
-loop-again c =
-    let o = c .before .before .before .before .before .before .before .before in
-    let l = c .before .before .before .before .loop in
-    let g = c .before .gather in (
-      omega arith,
-      (
-        length-set (l .b) (o .args .at + l .i) (bitXor (getD (o .args .s .now) (l .i) 0) (g .result)) ∙ l .inv .1 .0,
-        swept-more (o .args .offsets .now) (o .args .s .now) (o .args .b .now) (l .b) (o .args .at) (l .i) (g .result) (omega arith)
-            (g .ensures) (l .inv .1 .1),
-      ),
-    )
-
-same-length : tie.Need-same-length Inv-loop μ-loop
-same-length c = c .before .loop .inv .1 .0
-
-returns : tie.Need-returns Inv-loop μ-loop
-unfolding swept
+returns : tie.Need-returns
 returns c =
-    let o = c .before .before .before .before .before in
-    let l = c .before .loop in
-    let all : l .i ≡ length (o .args .s .now) = omega arith in
-    let none : drop (l .i) (o .args .s .now) ≡ [] = ap (λ (n : ℕ). drop n (o .args .s .now)) all ∙ drop-length (o .args .s .now) in
-    sym (l .inv .1 .1 ∙ ap (λ (r : List ℕ). swept (o .args .offsets .now) (o .args .at + l .i) r (l .b)) none)
+    let t = c .before .before .before .before .before in
+    let o = t .before .before .before .before .args in
+    c .before .before .sweep-within .ensures
+    ∙ sym (ap (λ (x : Bool). cond x (swept (o .offsets .now) (o .at) (o .s .now) (o .b .now)) (o .b .now))
+    (sym (t .sweepable .ensures) ∙ c .before .before .before .before .if1 .taken))
+
+returns-2 : tie.Need-returns-2
+returns-2 c =
+    let o = c .before .before .before .before .before .args in
+    sym (ap (λ (x : Bool). cond x (swept (o .offsets .now) (o .at) (o .s .now) (o .b .now)) (o .b .now))
+    (sym (c .before .sweepable .ensures) ∙ c .if1 .left))
 
 pub sweep-spec : {M : Type 1} → statement M
-sweep-spec =
-    tie.close
-    (tie.spec
-    Inv-loop μ-loop loop-holds (λ c. search needs) gather-requires (λ c. search needs) (λ c. search needs) (λ c. search needs)
-    (λ c. search needs) (λ c. search needs) loop-again same-length returns)
+sweep-spec = tie.close (tie.spec (λ c κs. search needs) sweep-within-requires (λ c. search needs) returns returns-2)

@@ -1,59 +1,32 @@
--- `folding::unsweep` meets its contract. The loop's invariant: the first i bytes are those that were swept. Assumes nothing.
+-- `folding::unsweep` meets its contract. Assumes nothing.
 use borrow.Author.Needs.{needs}
-use mathlib.Core.Path.{_≡_, refl, sym, ap, _∙_}
-use Prim.Native.Nat.{ℕ, _≤_, _-_, _+_}
-use native.Mathlib.Omega.{arith}
-use lib.Bits.{bitXor}
-use lib.ListN.{length, take, getD, length-set}
-use lib.Seq.{take-all}
+use mathlib.Core.Path.{sym, ap, _∙_}
+use mathlib.Core.Bool.{Bool, cond}
+use lib.ListN.{length}
 use Rattle.crc.specs.Folding.{unswept}
-use Rattle.folding.proofs.Turns.{unswept-more}
+use Rattle.crc.proofs.Bounds.{sweepable-where}
 use Rattle.folding.proofs.unsweep.Statement.{statement}
 use Rattle.folding.proofs.unsweep.Tie as tie
 
-abbrev Inv-loop : tie.InvT-loop
-Inv-loop offsets b at u₀ i₀ u i = (i ≤ length u₀) × ((length u ≡ length u₀) × (take i u ≡ unswept offsets at i b))
+unsweep-within-requires : tie.Need-unsweep-within-requires
+unsweep-within-requires c κs =
+    let o = c .before .before .before .before .before .before .args in
+    sweepable-where (o .offsets .now) (o .at) (length (o .u .now)) (length (o .b .now)) .0
+    (sym (c .before .before .sweepable .ensures) ∙ c .before .if1 .taken)
 
-abbrev μ-loop : tie.MeasureT-loop
-μ-loop offsets b at u₀ i₀ u i = length u₀ - i
-
-loop-holds : tie.Need-loop-holds Inv-loop μ-loop
-unfolding unswept
-loop-holds c = (omega arith, (refl, refl))
-
-gather-requires : tie.Need-gather-requires Inv-loop μ-loop
-gather-requires c κs =
-    let o = c .before .before .before .before .before in
-    let l = c .before .loop in
-    (λ n h. let near = o .pre .0 n h in (near .0, omega (arith, near)), omega (arith, l .inv .1 .0))
-
-loop-again : tie.Need-loop-again Inv-loop μ-loop
-loop-again c =
-    let o = c .before .before .before .before .before .before .before in
-    let l = c .before .before .before .loop in
-    let g = c .before .gather in (
-      omega arith,
-      (
-        length-set (l .u) (l .i) (bitXor (getD (o .args .b .now) (o .args .at + l .i) 0) (g .result)) ∙ l .inv .1 .0,
-        unswept-more (o .args .offsets .now) (o .args .b .now) (l .u) (o .args .at) (l .i) (g .result) (omega (arith, l .inv .1 .0))
-            (g .ensures) (l .inv .1 .1),
-      ),
-    )
-
-same-length : tie.Need-same-length Inv-loop μ-loop
-same-length c = c .before .loop .inv .1 .0
-
-returns : tie.Need-returns Inv-loop μ-loop
+returns : tie.Need-returns
 returns c =
-    let o = c .before .before .before .before .before in
-    let l = c .before .loop in
-    let all : l .i ≡ length (o .args .u .now) = omega (arith, l .inv .1 .0) in
-    sym (take-all (l .i) (l .u) (omega (arith, l .inv .1 .0))) ∙ l .inv .1 .1
-    ∙ ap (λ (n : ℕ). unswept (o .args .offsets .now) (o .args .at) n (o .args .b .now)) all
+    let t = c .before .before .before .before .before in
+    let o = t .before .before .before .before .args in
+    c .before .before .unsweep-within .ensures
+    ∙ sym (ap (λ (x : Bool). cond x (unswept (o .offsets .now) (o .at) (length (o .u .now)) (o .b .now)) (o .u .now))
+    (sym (t .sweepable .ensures) ∙ c .before .before .before .before .if1 .taken))
+
+returns-2 : tie.Need-returns-2
+returns-2 c =
+    let o = c .before .before .before .before .before .args in
+    sym (ap (λ (x : Bool). cond x (unswept (o .offsets .now) (o .at) (length (o .u .now)) (o .b .now)) (o .u .now))
+    (sym (c .before .sweepable .ensures) ∙ c .if1 .left))
 
 pub unsweep-spec : {M : Type 1} → statement M
-unsweep-spec =
-    tie.close
-    (tie.spec
-    Inv-loop μ-loop loop-holds (λ c. search needs) gather-requires (λ c. search needs) (λ c. search needs) (λ c. search needs)
-    (λ c. search needs) (λ c. search needs) loop-again same-length returns)
+unsweep-spec = tie.close (tie.spec (λ c κs. search needs) unsweep-within-requires (λ c. search needs) returns returns-2)

@@ -6,9 +6,9 @@ use Rattle.slicing16.proofs.at.Statement.{statement}
 use Rattle.slicing16.proofs.at.Tie as tie
 
 returns : tie.Need-returns
-returns c =
+returns c tabled =
     let o = c .before .before in
-    two-nibbles (kindOf (o .args .k)) 8 _ (o .pre .1) (o .args .n) (o .args .x) (o .pre .0) (search needs)
+    two-nibbles (kindOf (o .args .k)) 8 _ tabled (o .args .n) (o .args .x) (o .pre) (search needs)
 
 pub at-spec : {M : Type 1} → statement M
 at-spec =

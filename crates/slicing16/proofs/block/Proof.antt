@@ -7,14 +7,15 @@ use Rattle.slicing16.proofs.block.Statement.{statement}
 use Rattle.slicing16.proofs.block.Tie as tie
 
 returns : tie.Need-returns
-returns c =
+returns c tabled =
     let o = c .before .before .before .before .before in
     let first = c .before .before .before .two in
     let second = c .before .before .two2 in
     let third = c .before .two3 in
     let last = c .two4 in
     update-quarters (kindOf (o .args .k)) (o .args .register) (o .args .s .now) (o .args .i) 2 (first .result) (second .result)
-    (third .result) (last .result) (omega arith) (first .ensures) (second .ensures) (third .ensures) (last .ensures)
+    (third .result) (last .result) (omega arith) (first .ensures tabled)
+    (second .ensures tabled) (third .ensures tabled) (last .ensures tabled)
 
 pub block-spec : {M : Type 1} → statement M
 block-spec =

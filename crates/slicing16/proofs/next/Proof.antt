@@ -11,9 +11,9 @@ use Rattle.slicing16.proofs.next.Tie as tie
 
 returns : tie.Need-returns
 unfolding zeroBytes
-returns c =
+returns c tabled =
     let o = c .before .before in
-    ap₂ bitXor (c .before .entry .ensures) (c .rest .ensures)
+    ap₂ bitXor (c .before .entry .ensures tabled) (c .rest .ensures)
     ∙ sym (byte-table (kindOf (o .args .k)) (lit≤ tt) (o .args .register) (o .args .b))
 
 pub next-spec : {M : Type 1} → statement M

@@ -14,7 +14,7 @@ use Rattle.slicing16.proofs.two.Statement.{statement}
 use Rattle.slicing16.proofs.two.Tie as tie
 
 returns : tie.Need-returns
-returns c =
+returns c tabled =
     let o = c .before .before .before .before .before .before in
     let k = kindOf (o .args .k) in
     let d = directionOf (o .args .k .reflected) in
@@ -22,8 +22,8 @@ returns c =
     let n = o .args .n in
     let i = o .args .i in
     let left = c .before .before .before .before .rest in
-    ap₂ bitXor (c .before .before .entry .ensures)
-    (c .entry2 .ensures ∙ ap (λ (r : ℕ). zeroBytes k n (byteStep k 0 (bitXor (front d 16 r) (getD s (i + 1) 0)))) (left .ensures))
+    ap₂ bitXor (c .before .before .entry .ensures tabled)
+    (c .entry2 .ensures tabled ∙ ap (λ (r : ℕ). zeroBytes k n (byteStep k 0 (bitXor (front d 16 r) (getD s (i + 1) 0)))) (left .ensures))
     ∙ sym (update-alone k (lit≤ tt) n (o .args .register) s i 1 (o .pre .1) (used-up d (o .args .register) (search needs)))
 
 pub two-spec : {M : Type 1} → statement M

@@ -6,9 +6,9 @@ use Rattle.slicing32.proofs.at.Statement.{statement}
 use Rattle.slicing32.proofs.at.Tie as tie
 
 returns : tie.Need-returns
-returns c =
+returns c tabled =
     let o = c .before .before in
-    two-nibbles crc32 16 _ (o .pre .1) (o .args .n) (o .args .x) (o .pre .0) (search needs)
+    two-nibbles crc32 16 _ tabled (o .args .n) (o .args .x) (o .pre) (search needs)
 
 pub at-spec : {M : Type 1} → statement M
 at-spec =

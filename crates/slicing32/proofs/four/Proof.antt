@@ -11,12 +11,12 @@ use Rattle.slicing32.proofs.four.Tie as tie
 
 returns : tie.Need-returns
 unfolding crc32
-returns c =
+returns c tabled =
     let o = c .before .before .before .before .before .before .before .before .before in
     let r = o .args .register in
-    ap₂ bitXor (c .before .before .before .before .before .before .entry .ensures)
-    (ap₂ bitXor (c .before .before .before .before .entry2 .ensures)
-    (ap₂ bitXor (c .before .before .entry3 .ensures) (c .entry4 .ensures)))
+    ap₂ bitXor (c .before .before .before .before .before .before .entry .ensures tabled)
+    (ap₂ bitXor (c .before .before .before .before .entry2 .ensures tabled)
+    (ap₂ bitXor (c .before .before .entry3 .ensures tabled) (c .entry4 .ensures tabled)))
     ∙ sym (update-alone crc32 (lit≤ tt) (o .args .n) r (o .args .s .now) (o .args .i) 3 (o .pre .1) (used-up r (search needs)))
 
 pub four-spec : {M : Type 1} → statement M

@@ -12,9 +12,9 @@ use Rattle.slicing32.proofs.next.Tie as tie
 
 returns : tie.Need-returns
 unfolding crc32 zeroBytes
-returns c =
+returns c tabled =
     let o = c .before in
-    ap (λ (x : ℕ). bitXor x (o .args .register / 256)) (c .entry .ensures)
+    ap (λ (x : ℕ). bitXor x (o .args .register / 256)) (c .entry .ensures tabled)
     ∙ sym (byte-table crc32 (lit≤ tt) (o .args .register) (o .args .b))
 
 pub next-spec : {M : Type 1} → statement M

@@ -1,20 +1,12 @@
 -- `crc16::fold::part` meets its contract. Assumes nothing.
 use borrow.Author.Needs.{needs}
 use mathlib.Core.Path.{refl, _∙_}
-use Prim.Native.Nat.{_+_}
 use native.Mathlib.Omega.{arith}
-use lib.Dec.{lit≤}
-use Rattle.crc.proofs.Folding.{carries-part, within-wider}
+use Rattle.crc.proofs.Folding.{carries-part}
 use Rattle.crc16.specs.Foldable.{kindFor}
 use Rattle.crc16.proofs.Foldable.{within-one}
 use Rattle.crc16.proofs.fold.part.Statement.{statement}
 use Rattle.crc16.proofs.fold.part.Tie as tie
-
-sweep-requires : tie.Need-sweep-requires
-sweep-requires c κs =
-    let o = c .before .before .before .before .before in
-    let p = o .args .p in
-    (within-wider 2 (p .far) 1 (p .far + p .far) (p .offsets) (lit≤ tt) (omega arith) (o .pre .1 .1 .within), omega arith)
 
 returns : tie.Need-returns
 returns c =
@@ -32,4 +24,4 @@ pub part-spec : {M : Type 1} → statement M
 part-spec =
     tie.close
     (tie.spec
-    (λ c. search needs) (λ c. search needs) sweep-requires (λ c. search needs) (λ c κs. search needs) (λ c. search needs) returns)
+    (λ c. search needs) (λ c. search needs) (λ c κs. search needs) (λ c. search needs) (λ c κs. search needs) (λ c. search needs) returns)

@@ -6,7 +6,7 @@ use Rattle.crc16.proofs.register.over.Tie as tie
 
 returns : tie.Need-returns
 unfolding checksum finish
-returns c = c .over .ensures
+returns c = c .over .ensures (c .before .before .before .pre .0)
 
 returns-2 : tie.Need-returns-2
 unfolding checksum finish

@@ -2,16 +2,12 @@
 use borrow.Author.Needs.{needs}
 use mathlib.Core.Path.{refl, _∙_}
 use native.Mathlib.Omega.{arith}
-use lib.Dec.{lit≤}
 use Rattle.crc.specs.Crc.{crc32}
-use Rattle.crc.proofs.Folding.{carries-part, within-wider}
+use Rattle.crc.proofs.Folding.{carries-part}
 use Rattle.crc32.specs.Offsets.{offsets, far}
-use Rattle.crc32.proofs.Foldable.{within-four, within-one, offsets-multiple}
+use Rattle.crc32.proofs.Foldable.{within-one, offsets-multiple}
 use Rattle.crc32.proofs.fold.part.Statement.{statement}
 use Rattle.crc32.proofs.fold.part.Tie as tie
-
-sweep-requires : tie.Need-sweep-requires
-sweep-requires c κs = (within-wider 4 far 1 _ offsets (lit≤ tt) (lit≤ tt) within-four, omega arith)
 
 returns : tie.Need-returns
 returns c =
@@ -26,4 +22,4 @@ pub part-spec : {M : Type 1} → statement M
 part-spec =
     tie.close
     (tie.spec
-    (λ c. search needs) (λ c. search needs) sweep-requires (λ c. search needs) (λ c κs. search needs) (λ c. search needs) returns)
+    (λ c. search needs) (λ c. search needs) (λ c κs. search needs) (λ c. search needs) (λ c κs. search needs) (λ c. search needs) returns)
