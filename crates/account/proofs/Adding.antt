@@ -48,7 +48,8 @@ adds-written l t h =
     let d = drop (at + length t) (l .bytes) in
     let size : length (f ++ t) ≡ at + length t = omega (arith, length-append f t, length-take-le at (l .bytes) (omega arith)) in
     record {
-      says = ap (take (at + length t)) (written-fits (l .bytes) t at h ∙ sym (append-assoc f t d)) ∙ take-at (f ++ t) d (at + length t) size;
+      says = ap (take (at + length t)) (written-fits (l .bytes) t at h ∙ sym (append-assoc f t d))
+          ∙ take-at (f ++ t) d (at + length t) size;
       counts = refl;
       keeps = written-size (l .bytes) t (l .count);
     }

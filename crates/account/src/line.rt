@@ -1,14 +1,19 @@
 // A line of the output.
+use controller::call::MIN_ROOM;
 use text::hex;
 ghost use mathlib.Core.Path.{_≡_};
 ghost use mathlib.Core.List.{[], _∷_};
 ghost use Prim.Native.Nat.{_+_, _*_, _≤_, _<_};
 ghost use lib.ListN.{length};
+ghost use Rattle.controller.specs.Calls.{minRoom};
 ghost use Rattle.text.specs.Hex.{hexByte};
 ghost use Rattle.account.specs.Texts.{maxLine, lineText, replyText, FrameText, EndText, Adds, AddsDecimal};
 
-// As much as a line can take: two decimals of up to 20 digits, a command of 2, a reply of 33 bytes, three spaces and the line's end.
-pub const MAX_LINE: usize = 112;
+// As much as a line can take: two decimals, a command of two digits, the longest reply, three spaces and the line's end.
+pub const MAX_LINE: usize = 2 * DECIMAL + 2 + 2 * MIN_ROOM + 4;
+
+// The most digits of a decimal.
+const DECIMAL: usize = 20;
 
 // Its first `count` bytes.
 pub struct Line {
@@ -19,7 +24,7 @@ pub struct Line {
 impl Line {
     // The line of a frame.
     pub(crate) fn frame(place: u64, command: u8, outcome: u8, reply: &[u8]) -> Line
-        requires { ⌜ length (now reply) ≤ 33 ⌝ }
+        requires { ⌜ length (now reply) ≤ minRoom ⌝ }
         ensures { λ r. ⌜ FrameText place command outcome (now (reply .entry)) (lineText r) ⌝ }
     {
         Line::empty()
@@ -56,10 +61,10 @@ impl Line {
     // The reply in hexadecimal, or `-` for none.
     fn reply(self, reply: &[u8]) -> Line
         requires { ⌜ length (self .bytes) ≡ maxLine ⌝ }
-        requires { ⌜ self .count + 66 ≤ maxLine ⌝ }
-        requires { ⌜ length (now reply) ≤ 33 ⌝ }
+        requires { ⌜ self .count + 2 * minRoom ≤ maxLine ⌝ }
+        requires { ⌜ length (now reply) ≤ minRoom ⌝ }
         ensures { λ r. ⌜ Adds self (replyText (now (reply .entry))) r ⌝ }
-        ensures { λ r. ⌜ r .count ≤ self .count + 66 ⌝ }
+        ensures { λ r. ⌜ r .count ≤ self .count + 2 * minRoom ⌝ }
     {
         if reply.len() == 0 {
             return self.put(b'-');
@@ -78,7 +83,7 @@ impl Line {
         requires { ⌜ self .count + 20 ≤ maxLine ⌝ }
         ensures { λ r. ⌜ AddsDecimal self n r ⌝ }
     {
-        let mut digits = [0u8; 20];
+        let mut digits = [0u8; DECIMAL];
         let count = io::decimal(n, &mut digits);
         self.text(&digits[..count])
     }

@@ -5,7 +5,7 @@ use Prim.Native.Nat.{ℕ, _≤_}
 use borrow.Author.Tests.{le-ltb}
 use lib.ListN.{replicate}
 use Rattle.sequences.specs.Search.{find}
-use Rattle.session.specs.Boards.{noBoard, placeOf, badList}
+use Rattle.boards.specs.Boards.{noBoard, placeOf, badList}
 use Rattle.session.specs.Opening as session
 use Rattle.controller.specs.Records.{openedRecord}
 use Rattle.controller.specs.Bench.{board, areaSize, openedOn}

@@ -3,7 +3,7 @@ use mathlib.Core.Path.{_≡_}
 use mathlib.Core.List.{_∷_}
 use Prim.Native.Nat.{ℕ, _≤_}
 use lib.ListN.{replicate}
-use Rattle.session.specs.Boards.{noBoard}
+use Rattle.boards.specs.Boards.{noBoard}
 use Rattle.controller.specs.declared.record.Record.{Record}
 use Rattle.controller.specs.Records.{freshRecord}
 use Rattle.controller.specs.Bench.{board, areaSize, openedOn}

@@ -1,3 +1,3 @@
 -- The definitions that the contracts of `bench` cite.
 pub mod Boards
-pub mod Portions
+pub mod Calls

@@ -3,9 +3,9 @@
 // - `open`: the fresh record of the bench's one board; `open_on`: of that board on another channel.
 // - `AREA`: the length of the area that every call on that record lends.
 // - `PORTION`: the most bytes of the image that a turn of a program reads back for an end check.
+use boards::board::Board;
+use boards::list::MAX_BOARDS;
 use controller::record::Record;
-use session::list::MAX_BOARDS;
-use transfer::board::Board;
 ghost use mathlib.Core.Path.{_≡_};
 ghost use Rattle.controller.specs.Bench.{fresh};
 ghost use Rattle.bench.specs.Boards.{Opens};

@@ -21,7 +21,8 @@ module _ {run r : Run} {k : Called} {room buffer after area : List ℕ} {stage :
   pub passes : {x : CallLeaves} → Leaves x k room area → Follows run k room buffer stage r after → Passes run x buffer stage r after area
   passes {x} l f =
       record {
-        follows = subst (λ (s : List ℕ). Follows run (x .called) s buffer stage r after) (l .leaves-room) (subst (λ (c : Called). Follows run c room buffer stage r after) (l .gives) f);
+        follows = subst (λ (s : List ℕ). Follows run (x .called) s buffer stage r after) (l .leaves-room)
+            (subst (λ (c : Called). Follows run c room buffer stage r after) (l .gives) f);
         leaves-area = l .leaves-area;
       }
 

@@ -4,16 +4,16 @@ use mathlib.Core.Path.{_≡_}
 use mathlib.Core.Bool.{Bool, true, false, not, _||_, _&&_}
 use mathlib.Core.List.{List}
 use Prim.Native.Nat.{ℕ, _≤_, _<_, min}
-use lib.ListN.{length, replicate}
+use lib.ListN.{length}
 use lib.Seq.{slice}
 use Rattle.controller.specs.declared.call.Called.{Called}
 use Rattle.controller.specs.declared.record.Record.{Record}
 use Rattle.controller.specs.Records.{isChecking}
-use Rattle.controller.specs.Calls.{CallLeaves, minRoom, fedCall, quietedCall}
+use Rattle.controller.specs.Calls.{CallLeaves, fedCall, quietedCall}
 use Rattle.controller.specs.Portions.{PortionLeaves, portionCall}
 use Rattle.account.specs.declared.account.Account.{Account}
 use Rattle.account.specs.Accounts.{sum, nothingTold, CallTold, PortionTold, AllWritten}
-use Rattle.bench.specs.Portions.{mostRead}
+use Rattle.bench.specs.Calls.{freshRoom, mostRead}
 use Rattle.capture.specs.declared.run.Run.{Run}
 use Rattle.capture.specs.declared.run.Unfed.{Unfed}
 use Rattle.capture.specs.declared.stage.Stage.{Stage}
@@ -43,10 +43,6 @@ pub record Follows (run : Run) (c : Called) (room buffer : List ℕ) (stage : St
 pub record Passes (run : Run) (x : CallLeaves) (buffer : List ℕ) (stage : Stage) (r : Run) (after area : List ℕ) : Type 0 where
   pub follows : Follows run (x .called) (x .room) buffer stage r after
   pub leaves-area : area ≡ x .area
-
--- each call is lent a room of zeros
-abbrev pub freshRoom : List ℕ
-freshRoom = replicate minRoom 0
 
 -- quiet is told
 abbrev pub quietTurn : Run → List ℕ → CallLeaves

@@ -75,7 +75,8 @@ impl Run {
         output: &mut [u8; SIZE],
         area: &mut [u8; AREA],
     ) -> Run
-        ensures { λ r. ⌜ Turned (isChecking (self .record)) (self .stage) self (now (input .entry)) (now (output .entry)) (now (area .entry)) r (now (input .exit)) (now (output .exit)) (now (area .exit)) ⌝ }
+        ensures { λ r. ⌜ Turned (isChecking (self .record)) (self .stage) self (now (input .entry)) (now (output .entry))
+            (now (area .entry)) r (now (input .exit)) (now (output .exit)) (now (area .exit)) ⌝ }
     {
         let record = self.record;
         if record.is_checking() {
@@ -92,7 +93,8 @@ impl Run {
 
     // Feeds what is left in the input buffer, and fills it when nothing is.
     fn feed(self, input: &mut [u8; INPUT], output: &mut [u8; SIZE], area: &mut [u8; AREA]) -> Run
-        ensures { λ r. ⌜ FeedsOrReads self (now (input .entry)) (now (output .entry)) (now (area .entry)) r (now (input .exit)) (now (output .exit)) (now (area .exit)) ⌝ }
+        ensures { λ r. ⌜ FeedsOrReads self (now (input .entry)) (now (output .entry)) (now (area .entry)) r (now (input .exit))
+            (now (output .exit)) (now (area .exit)) ⌝ }
     {
         let left = behind(front(input, self.unfed.end), self.unfed.at);
         if left.len() == 0 {

@@ -7,6 +7,11 @@ use link::script;
 use link::script::Script;
 use text::output::Output;
 use text::output::SIZE;
+ghost use mathlib.Core.Path.{_≡_};
+ghost use mathlib.Core.List.{List};
+ghost use Prim.Native.Nat.{ℕ};
+ghost use Rattle.carrier.specs.Sending.{emptyCarrier, passing, losing, sending, CarriesOn};
+ghost use Rattle.carrier.specs.Clearing.{cleared};
 
 pub struct Carrier {
     pub link: Link,
@@ -16,7 +21,9 @@ pub struct Carrier {
 
 impl Carrier {
     // Nothing is under way.
-    pub fn empty(script: Script) -> Carrier {
+    pub fn empty(script: Script) -> Carrier
+        ensures { λ r. ⌜ r ≡ emptyCarrier script ⌝ }
+    {
         Carrier {
             link: Link::empty(),
             script,
@@ -31,7 +38,10 @@ impl Carrier {
         letters: &[u8],
         memory: &mut [u8; MEMORY],
         out: &mut [u8; SIZE],
-    ) -> Carrier {
+    ) -> Carrier
+        ensures { λ r. ⌜ CarriesOn (sending (self .link) (self .script) (now (memory .entry)) frame (now (letters .entry)))
+            (self .output) (now (out .entry)) r (now (memory .exit)) (now (out .exit)) ⌝ }
+    {
         let script = self.script;
         let letter = script.next(letters);
         self.script = script.after_sending(letters);
@@ -46,7 +56,10 @@ impl Carrier {
     }
 
     // Nothing is under way any more; each copy that was has this fate.
-    pub fn cleared(mut self, fate: &[u8], memory: &[u8; MEMORY], out: &mut [u8; SIZE]) -> Carrier {
+    pub fn cleared(mut self, fate: &[u8], memory: &[u8; MEMORY], out: &mut [u8; SIZE]) -> Carrier
+        ensures { λ r. ⌜ CarriesOn (cleared (self .link) (self .script) (now (memory .entry)) (now (fate .entry))) (self .output)
+            (now (out .entry)) r (now (memory .entry)) (now (out .exit)) ⌝ }
+    {
         let mut output = self.output;
         let mut link = self.link;
         while link.count > 0 {
@@ -59,7 +72,10 @@ impl Carrier {
     }
 
     // A copy goes under way, or is lost where all places are taken.
-    fn pass(mut self, frame: Frame, memory: &mut [u8; MEMORY], out: &mut [u8; SIZE]) -> Carrier {
+    fn pass(mut self, frame: Frame, memory: &mut [u8; MEMORY], out: &mut [u8; SIZE]) -> Carrier
+        ensures { λ r. ⌜ CarriesOn (passing (self .link) (self .script) (now (memory .entry)) frame) (self .output) (now (out .entry)) r
+            (now (memory .exit)) (now (out .exit)) ⌝ }
+    {
         let link = self.link;
         if link.count < PLACES {
             self.link = link.with(frame, memory);
@@ -68,7 +84,10 @@ impl Carrier {
         self.lose(frame, out)
     }
 
-    fn lose(mut self, frame: Frame, out: &mut [u8; SIZE]) -> Carrier {
+    fn lose(mut self, frame: Frame, out: &mut [u8; SIZE]) -> Carrier
+        ensures { λ r. ⌜ ((memory : List ℕ) → CarriesOn (losing (self .link) (self .script) memory frame) (self .output)
+            (now (out .entry)) r memory (now (out .exit))) ⌝ }
+    {
         self.output = transcript::gone(self.output, frame, b"lost", out);
         self
     }

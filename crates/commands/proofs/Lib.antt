@@ -1,6 +1,2 @@
--- The laws that belong to no one function, by subject.
+-- The laws that belong to no one function.
 pub mod Rows
-pub mod Replies
-pub mod ReplyFrames
-mod RequestFrames
-pub mod RoundTrips

@@ -3,10 +3,11 @@ use mathlib.Core.Path.{_≡_, refl}
 use Prim.Native.Nat.{ℕ, zero, suc, _≤_}
 use native.Mathlib.Omega.{arith}
 use Rattle.sequences.specs.Search.{find}
+use Rattle.commands.specs.Limits.{maxReply}
 use Rattle.commands.specs.Table.{table, rowAt, placeInTable}
 
 -- no reply is longer than FB's
-pub reply-short : (i : ℕ) → rowAt i .«reply_length» ≤ 26
+pub reply-short : (i : ℕ) → rowAt i .«reply_length» ≤ maxReply
 unfolding rowAt table
 reply-short zero = omega arith
 reply-short (suc zero) = omega arith

@@ -1,10 +1,5 @@
--- The definitions that the contracts of `commands` cite, in the order of 01, "The six commands".
+-- The definitions that the contracts of `commands` cite: 01, "The six commands", and the numbers that both ends share.
 pub mod Limits
 pub mod Outcomes
-pub mod Table
-pub mod Requests
 pub mod States
-pub mod Replies
-pub mod RequestFrames
-pub mod ReplyFields
-pub mod RoundTrips
+pub mod Table

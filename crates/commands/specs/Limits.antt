@@ -9,6 +9,10 @@ minPacket = 16
 abbrev pub maxPacket : ℕ
 maxPacket = 512
 
+-- the longest reply's data: FB's
+abbrev pub maxReply : ℕ
+maxReply = 26
+
 -- "After number 65,535 no packet is next"
 abbrev pub maxNext : ℕ
 maxNext = 65536

@@ -61,7 +61,8 @@ noCheckRuns = 18
 abbrev pub unfinished : ℕ
 unfinished = 19
 
--- 02, K3, as docs/SENDER.md has it for the sending end: "opening: size below 16, or the image empty or above 1,048,576. Calls: the image's length is not the record's"
+-- 02, K3, as docs/SENDER.md has it for the sending end: "opening: size below 16, or the image empty or above 1,048,576. Calls: the
+-- image's length is not the record's"
 abbrev pub wrongImage : ℕ
 wrongImage = 20
 

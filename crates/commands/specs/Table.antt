@@ -9,6 +9,7 @@ use Rattle.commands.specs.declared.table.Row.{Row}
 use Rattle.commands.specs.declared.table.Header.{Header}
 use Rattle.commands.specs.declared.table.Header.the-variants.{Unlisted, Wrong, Right}
 use Rattle.sequences.specs.Search.{find}
+use Rattle.commands.specs.Limits.{maxReply}
 
 abbrev pub row : ℕ → ℕ → ℕ → ℕ → ℕ → ℕ → Row
 row c v least most rv rl = record { command = c; version = v; least = least; most = most; «reply_version» = rv; «reply_length» = rl }
@@ -31,14 +32,18 @@ rowAt i = getD table i (row 0 0 0 0 0 0)
 abbrev pub isCommand : ℕ → ℕ → Bool
 isCommand c i = eqb (rowAt i .command) c
 
--- a command's place in the table, or 6
+-- "The six commands"
+abbrev pub commandCount : ℕ
+commandCount = 6
+
+-- a command's place in the table, or the table's length
 unfoldable pub placeInTable : ℕ → ℕ
-placeInTable c = find (isCommand c) 6 0
+placeInTable c = find (isCommand c) commandCount 0
 
 -- a command's row, all zero where it has none. (`fits` follows from `is`; callers need it to lend so much of a reply.)
 pub record RowOf (command : ℕ) (r : Row) : Type 0 where
   pub is : r ≡ rowAt (placeInTable command)
-  pub fits : r .«reply_length» ≤ 26
+  pub fits : r .«reply_length» ≤ maxReply
 
 -- "version byte or L wrong"
 abbrev pub badHeader : Row → ℕ → ℕ → Bool
@@ -46,4 +51,5 @@ badHeader r version L = not (eqb version (r .version)) || (ltb L (r .least) || l
 
 -- what the table says of a frame's version, command and L
 unfoldable pub headerOf : ℕ → ℕ → ℕ → Header
-headerOf version command L = cond (ltb (placeInTable command) 6) (cond (badHeader (rowAt (placeInTable command)) version L) Wrong Right) Unlisted
+headerOf version command L =
+    cond (ltb (placeInTable command) commandCount) (cond (badHeader (rowAt (placeInTable command)) version L) Wrong Right) Unlisted

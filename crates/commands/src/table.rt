@@ -1,7 +1,7 @@
 // The command table of document 01.
 ghost use mathlib.Core.Path.{_≡_};
 ghost use Prim.Native.Nat.{_≤_, _<_};
-ghost use Rattle.commands.specs.Table.{placeInTable, rowAt, RowOf, headerOf, badHeader};
+ghost use Rattle.commands.specs.Table.{commandCount, placeInTable, rowAt, RowOf, headerOf, badHeader};
 
 pub const F9: u8 = 0xF9;
 
@@ -101,7 +101,7 @@ pub fn header_of(version: u8, command: u8, length: usize) -> Header
 }
 
 fn bad_header(i: usize, version: u8, length: usize) -> bool
-    requires { ⌜ i < 6 ⌝ }
+    requires { ⌜ i < commandCount ⌝ }
     ensures { λ r. ⌜ r ≡ badHeader (rowAt i) version length ⌝ }
 {
     let row = row_at(i);
@@ -134,7 +134,7 @@ pub fn row_of(command: u8) -> Row
 
 // The place of a command in the table, or the table's length.
 fn place_of(command: u8) -> usize
-    ensures { λ r. ⌜ (r ≡ placeInTable command) × (r ≤ 6) ⌝ }
+    ensures { λ r. ⌜ (r ≡ placeInTable command) × (r ≤ commandCount) ⌝ }
 {
     let mut i = 0;
     while i < COUNT {
@@ -147,7 +147,7 @@ fn place_of(command: u8) -> usize
 }
 
 fn row_at(i: usize) -> Row
-    requires { ⌜ i < 6 ⌝ }
+    requires { ⌜ i < commandCount ⌝ }
     ensures { λ r. ⌜ r ≡ rowAt i ⌝ }
 {
     TABLE[i]

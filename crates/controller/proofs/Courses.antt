@@ -13,16 +13,16 @@ use Rattle.crc.specs.Crc.{update, finish, crc32}
 use Rattle.fronts.specs.Frame.{encode}
 use Rattle.frames.specs.LiveReading.{Call, fedBy}
 use Rattle.sequences.proofs.Orders.{lt-or-le}
-use Rattle.commands.specs.Replies.{replyFrame}
+use Rattle.replies.specs.Replies.{replyFrame}
 use Rattle.image.specs.declared.check.Check.{Check}
 use Rattle.image.specs.declared.check.Verdict.{Verdict}
 use Rattle.image.specs.declared.check.Verdict.the-variants.{Unfinished, Right, Wrong}
 use Rattle.transfer.specs.declared.state.Transfer.{Transfer}
 use Rattle.transfer.specs.declared.state.Step.{Step}
 use Rattle.transfer.specs.Transfers.{withCheck}
-use Rattle.transfer.specs.FE.{endedFE}
+use Rattle.ending.specs.FE.{endedFE}
 use Rattle.image.specs.Checks.{readOn}
-use Rattle.transfer.specs.Portions.{unread, willSay}
+use Rattle.ending.specs.Portions.{unread, willSay}
 use Rattle.session.specs.declared.session.Session.{Session}
 use Rattle.session.specs.declared.check.Checked.{Checked}
 use Rattle.session.specs.Lawful.{unlawful}
@@ -34,7 +34,8 @@ use Rattle.controller.specs.declared.record.Record.{Record}
 use Rattle.controller.specs.Records.{unlawfulRecord, isChecking}
 use Rattle.controller.specs.Calls.{refusalOf, replyIn, calledBy}
 use Rattle.controller.specs.Portions.{PortionLeaves, checkedPortion, portionCall, CallKind, lineCall, portion}
-use Rattle.controller.specs.CheckCourse.{Later, lendsEnough, largest, bytesAsked, Course, courseFrom, courseAfter, isGiven, course, CheckEnds, EndsInPortions}
+use Rattle.controller.specs.CheckCourse.{Later, lendsEnough, largest, bytesAsked, Course, courseFrom, courseAfter, isGiven}
+use Rattle.controller.specs.CheckCourse.{course, CheckEnds, EndsInPortions}
 use Rattle.controller.proofs.Refusals.{lawful-record, record-accepted, Accepted, accepted-of}
 use Rattle.controller.proofs.Settling.{verdict-reply, ended-still}
 use Rattle.controller.proofs.Keeping.{portion-refused, portion-accepted}
@@ -46,8 +47,10 @@ true-false e = let z : _≡_ {A = ℕ} 0 1 = cc in absurd (omega arith)
 -- ---- the course
 
 -- what the check will say depends on the image's bytes alone
-says-by-image : (t : Transfer) (area memory : List ℕ) → take (t .image .announced) memory ≡ take (t .image .announced) area → willSay t memory ≡ willSay t area
-says-by-image t area memory e = ap (λ (l : List ℕ). eqb (finish crc32 (update crc32 (t .check .register) (drop (t .check .read) l))) (t .image .crc)) e
+says-by-image : (t : Transfer) (area memory : List ℕ) → take (t .image .announced) memory ≡ take (t .image .announced) area
+    → willSay t memory ≡ willSay t area
+says-by-image t area memory e =
+    ap (λ (l : List ℕ). eqb (finish crc32 (update crc32 (t .check .register) (drop (t .check .read) l))) (t .image .crc)) e
 
 -- the end of a check does not depend on how far it has come
 ended-alike : (t : Transfer) (c : Check) (right : Bool) → endedFE (withCheck t c) right ≡ endedFE t right
@@ -75,7 +78,8 @@ module _ (r : Record) (ok : unlawfulRecord r ≡ false) (runs : isChecking r ≡
   left = unread (r .session .transfer)
 
   abbrev pub SameImageIn : Later → Type 0
-  SameImageIn c = Same → lendsEnough (r .session .opened) c ≡ true → take (t .image .announced) (c .memory) ≡ take (t .image .announced) area
+  SameImageIn c =
+      Same → lendsEnough (r .session .opened) c ≡ true → take (t .image .announced) (c .memory) ≡ take (t .image .announced) area
 
   abbrev pub AllSame : List Later → Type 0
   AllSame [] = Unit
@@ -146,8 +150,19 @@ module _ (r : Record) (ok : unlawfulRecord r ≡ false) (runs : isChecking r ≡
       code = eqb (refusalOf (x .at) (length (c .room)) (length (c .memory))) 0
 
       after-is : (w : PortionLeaves) → y ≡ w
-          → courseAfter (portion k) c x ≡ record { at = w .called .next; read = x .read + w .called .count; replies = x .replies ++ replyIn (w .called .«reply_length») (w .room); verdict = w .called .verdict }
-      after-is w e = ap (λ (w : PortionLeaves). record { at = w .called .next; read = x .read + w .called .count; replies = x .replies ++ replyIn (w .called .«reply_length») (w .room); verdict = w .called .verdict }) e
+          → courseAfter (portion k) c x ≡ record {
+            at = w .called .next;
+            read = x .read + w .called .count;
+            replies = x .replies ++ replyIn (w .called .«reply_length») (w .room);
+            verdict = w .called .verdict;
+          }
+      after-is w e =
+          ap (λ (w : PortionLeaves). record {
+            at = w .called .next;
+            read = x .read + w .called .count;
+            replies = x .replies ++ replyIn (w .called .«reply_length») (w .room);
+            verdict = w .called .verdict;
+          }) e
 
       -- a refused portion
       refused-goes : code ≡ false → Going n (courseAfter (portion k) c x)
@@ -183,7 +198,9 @@ module _ (r : Record) (ok : unlawfulRecord r ≡ false) (runs : isChecking r ≡
         says-here i = says-by-image (u .transfer) area (c .memory) (same i lends) ∙ g .says i
 
         portion-is : y ≡ checkedPortion (checked u k (c .memory)) (x .at) (c .room)
-        portion-is = portion-accepted k (x .at) (c .room) (c .memory) e ∙ ap (λ (z : Session). checkedPortion (checked z k (c .memory)) (x .at) (c .room)) (g .session)
+        portion-is =
+            portion-accepted k (x .at) (c .room) (c .memory) e
+            ∙ ap (λ (z : Session). checkedPortion (checked z k (c .memory)) (x .at) (c .room)) (g .session)
 
         portion-goes : n + k < left → Going (n + k) (courseAfter (portion k) c x)
         portion-goes h =
@@ -208,7 +225,8 @@ module _ (r : Record) (ok : unlawfulRecord r ≡ false) (runs : isChecking r ≡
         portion-ends h =
             let p = g .progress in
             let all : unread (u .transfer) ≤ k = omega arith in
-            let unread-here : t .check .read + n < t .image .announced = let z = lawful u lawful-u .check-unread (g .running) in omega arith in
+            let unread-here : t .check .read + n < t .image .announced = let z = lawful u lawful-u .check-unread (g .running) in
+            omega arith in
             let q = finished-by u k (c .memory) lawful-u size-u (g .running) all in
             let right = willSay (u .transfer) (c .memory) in
             let ended : Same → dueOf u (c .memory) ≡ dueOf s area = λ i. ended-alike t (g .check) right ∙ ap (endedFE t) (says-here i) in
@@ -239,12 +257,16 @@ module _ (r : Record) (ok : unlawfulRecord r ≡ false) (runs : isChecking r ≡
   -- what has been read is less than what was left
   going-short : (n : ℕ) (x : Course) → Going n x → n < left
   going-short n x g =
-      let z = lawful (u n x g) (subst (λ (w : Session). unlawful w ≡ false) (g .session) (lawful-record (x .at) (g .lawful-here) .session)) .check-unread (g .running) in
+      let z = lawful (u n x g)
+      (subst (λ (w : Session). unlawful w ≡ false) (g .session) (lawful-record (x .at) (g .lawful-here) .session)) .check-unread
+      (g .running) in
       let p = g .progress in
       omega arith
 
-  step-stands : (kind : CallKind) (c : Later) (n : ℕ) (x : Course) → Going n x → SameImageIn c → Stands (n + cond (lendsEnough (s .opened) c) (largest kind) 0) (courseAfter kind c x)
-  step-stands (lineCall call) c n x g same = going-stands n _ _ (none (lendsEnough (s .opened) c)) (going-short n x g) (reading-goes n x g call c)
+  step-stands : (kind : CallKind) (c : Later) (n : ℕ) (x : Course) → Going n x → SameImageIn c
+      → Stands (n + cond (lendsEnough (s .opened) c) (largest kind) 0) (courseAfter kind c x)
+  step-stands (lineCall call) c n x g same =
+      going-stands n _ _ (none (lendsEnough (s .opened) c)) (going-short n x g) (reading-goes n x g call c)
     where
       none : (b : Bool) → n + cond b 0 0 ≡ n
       none true = omega arith
@@ -256,7 +278,8 @@ module _ (r : Record) (ok : unlawfulRecord r ≡ false) (runs : isChecking r ≡
 
       go : (b : Bool) → lendsEnough (s .opened) c ≡ b → Stands (n + cond (lendsEnough (s .opened) c) k 0) (courseAfter (portion k) c x)
       go false e =
-          let is : n + cond (lendsEnough (s .opened) c) k 0 ≡ n = ap (λ (b : Bool). n + cond b k 0) e ∙ (let z : n + 0 ≡ n = omega arith in z) in
+          let is : n + cond (lendsEnough (s .opened) c) k 0 ≡ n =
+          ap (λ (b : Bool). n + cond b k 0) e ∙ (let z : n + 0 ≡ n = omega arith in z) in
           going-stands n _ _ is (going-short n x g) (refused-goes n x g k c (code-is false e))
       go true e =
           let is : n + cond (lendsEnough (s .opened) c) k 0 ≡ n + k = ap (λ (b : Bool). n + cond b k 0) e in
@@ -268,7 +291,8 @@ module _ (r : Record) (ok : unlawfulRecord r ≡ false) (runs : isChecking r ≡
 
   -- one call, and then the others
   stands-on : (c : Later) (cs : List Later) (n : ℕ) (x : Course) → Going n x → SameImageIn c
-      → ((m : ℕ) (z : Course) → Going m z → Stands (m + bytesAsked (s .opened) cs) (course cs z)) → Stands (n + bytesAsked (s .opened) (c ∷ cs)) (course (c ∷ cs) x)
+      → ((m : ℕ) (z : Course) → Going m z → Stands (m + bytesAsked (s .opened) cs) (course cs z))
+      → Stands (n + bytesAsked (s .opened) (c ∷ cs)) (course (c ∷ cs) x)
   stands-on c cs n x g same others =
       subst (Stands (n + bytesAsked (s .opened) (c ∷ cs))) (sym (ap (λ (v : Verdict). cond (isGiven v) x (course cs z)) (g .unfinished)))
       (⊎-elim on over (lt-or-le (n + m) left))
@@ -317,7 +341,8 @@ check-ends r ok runs cs =
       finally = λ h. let d = x .finally h in (d .given, (d .read, d .stopped));
     }
 
-asked-portions : (opened k m : ℕ) (c : Later) → c .kind ≡ portion k → lendsEnough opened c ≡ true → bytesAsked opened (replicate m c) ≡ m * k
+asked-portions : (opened k m : ℕ) (c : Later) → c .kind ≡ portion k → lendsEnough opened c ≡ true
+    → bytesAsked opened (replicate m c) ≡ m * k
 asked-portions opened k zero c is e = let none : 0 ≡ 0 * k = omega arith in none
 asked-portions opened k (suc m) c is e =
     ap₂ (λ (b : Bool) (x : CallKind). cond b (largest x) 0 + bytesAsked opened (replicate m c)) e is

@@ -14,15 +14,16 @@ use Rattle.sequences.specs.Padding.{padded}
 use Rattle.frames.specs.LiveReading.{Call, called, fedBy, heldBytes}
 use Rattle.frames.proofs.Calls.{call-accepted, call-keeps}
 use Rattle.commands.specs.declared.table.Header.{Header}
-use Rattle.commands.specs.Replies.{maxReply, replyState, replyFrame}
-use Rattle.commands.proofs.ReplyFrames.{reply-frames}
+use Rattle.commands.specs.Limits.{maxReply}
+use Rattle.replies.specs.Replies.{replyState, replyFrame}
+use Rattle.replies.proofs.ReplyFrames.{reply-frames}
 use Rattle.image.specs.declared.check.Verdict.the-variants.{Right, Wrong}
 use Rattle.transfer.specs.declared.state.Transfer.{Transfer}
 use Rattle.image.specs.Checks.{startedCheck}
 use Rattle.transfer.specs.Transfers.{withCheck, replied}
-use Rattle.transfer.specs.FE.{reachesCrc}
-use Rattle.transfer.specs.Portions.{unread, willSay, rightCrc}
-use Rattle.transfer.proofs.Ends.{started-says}
+use Rattle.ending.specs.FE.{reachesCrc}
+use Rattle.ending.specs.Portions.{unread, willSay, rightCrc}
+use Rattle.ending.proofs.Ends.{started-says}
 use Rattle.session.specs.declared.session.Session.{Session}
 use Rattle.session.specs.declared.answer.Answer.{Answer}
 use Rattle.commands.specs.Outcomes.{accepted}
@@ -31,11 +32,13 @@ use Rattle.session.specs.Answering.{stepped, placeFor, answered, areaAfter, byH
 use Rattle.session.specs.OneGo.{inOneGo}
 use Rattle.session.specs.EndRequest.{IsEndRequest, Complete}
 use Rattle.session.specs.Transfers.{withTransfer}
-use Rattle.session.proofs.EndRequests.{fe-header, fe-area, unlisted-incomplete, starts-at-crc, complete-reaches, early-answers, started-complete}
+use Rattle.session.proofs.EndRequests.{fe-header, fe-area, unlisted-incomplete, starts-at-crc, complete-reaches, early-answers}
+use Rattle.session.proofs.EndRequests.{started-complete}
 use Rattle.session.proofs.Checks.{StartedBy, started-by, started-lawful, started-due, dueOf}
 use Rattle.controller.specs.declared.record.Record.{Record}
 use Rattle.controller.specs.Records.{unlawfulRecord, isChecking}
-use Rattle.controller.specs.Calls.{minRoom, refusalOf, CallLeaves, replySizeOf, replyRoomOf, replyIn, answeredCall, finishedCall, calledBy}
+use Rattle.controller.specs.Calls.{minRoom, refusalOf, CallLeaves, replySizeOf, replyRoomOf, replyIn, answeredCall}
+use Rattle.controller.specs.Calls.{finishedCall, calledBy}
 use Rattle.controller.specs.Leaving.{checkingOn, stateFrame, verdictState}
 use Rattle.controller.specs.CheckCourse.{Later, lendsEnough, bytesAsked, LendSameImage, Course, courseFrom, course}
 use Rattle.controller.specs.EndRequest.{successFrame, Starts, NotYet, AsInOneGo, EndRequestCalls, EndRequestMeetsCheck}
@@ -67,8 +70,10 @@ state-in channel state room wide =
     reply-in true 0xFE d room (λ _. reply-frames .fe-replied) wide
     ∙ ap (λ (f : Frame). encode f ∷ []) (reply-frames .fe channel state)
 
-module _ (call : Call) (untaken : List ℕ) (r : Record) (channel : ℕ) (room area : List ℕ) (ok : refusalOf r (length room) (length area) ≡ accepted)
-    (still : isChecking r ≡ false) (found : fedBy call untaken (r .reader) .found ≡ true) (is : IsEndRequest (fedBy call untaken (r .reader) .frame) channel) where
+module _ (call : Call) (untaken : List ℕ) (r : Record) (channel : ℕ) (room area : List ℕ)
+    (ok : refusalOf r (length room) (length area) ≡ accepted)
+    (still : isChecking r ≡ false) (found : fedBy call untaken (r .reader) .found ≡ true)
+    (is : IsEndRequest (fedBy call untaken (r .reader) .frame) channel) where
   abbrev f : Fed
   f = fedBy call untaken (r .reader)
 
@@ -85,7 +90,12 @@ module _ (call : Call) (untaken : List ℕ) (r : Record) (channel : ℕ) (room a
   x = calledBy (fedBy call untaken) r room area
 
   abbrev answerIs : Answer → CallLeaves
-  answerIs y = record { called = answeredCall f y room; room = replyRoomOf (y .replies) (f .frame .command) (y .reply) room; area = areaAfter (r .session) (f .frame) area }
+  answerIs y =
+      record {
+        called = answeredCall f y room;
+        room = replyRoomOf (y .replies) (f .frame .command) (y .reply) room;
+        area = areaAfter (r .session) (f .frame) area;
+      }
 
   call-is : x ≡ answerIs a
   unfolding finishedCall
@@ -122,10 +132,12 @@ module _ (call : Call) (untaken : List ℕ) (r : Record) (channel : ℕ) (room a
   replied-is : (n : ℕ) → a ≡ stepped s (replied t (replyState channel n)) → reply x ≡ stateFrame channel n ∷ []
   replied-is n e =
       ap reply (call-is ∙ ap answerIs e)
-      ∙ ap (λ (c : ℕ). replyIn (replySizeOf true c (padded maxReply (replyState channel n)) room) (replyRoomOf true c (padded maxReply (replyState channel n)) room)) (is .command)
+      ∙ ap (λ (c : ℕ). replyIn (replySizeOf true c (padded maxReply (replyState channel n)) room)
+      (replyRoomOf true c (padded maxReply (replyState channel n)) room)) (is .command)
       ∙ state-in channel n room wide
 
-  at-once : reachesCrc t channel ≡ false → (isChecking (x .called .next) ≡ false) × ((reply x ≡ successFrame channel ∷ [] → ⊥) × (Complete t channel area → ⊥))
+  at-once : reachesCrc t channel ≡ false → (isChecking (x .called .next) ≡ false) ×
+      ((reply x ≡ successFrame channel ∷ [] → ⊥) × (Complete t channel area → ⊥))
   at-once early =
       let none = starts-is ∙ early in
       let not-running = sym runs-is ∙ none in (
@@ -158,17 +170,25 @@ module _ (call : Call) (untaken : List ℕ) (r : Record) (channel : ℕ) (room a
     reader-small =
         let l = lawful-record r lawful-r .count in
         let c = called call (heldBytes (r .reader)) untaken in
-        let held = call-keeps call (heldBytes (r .reader)) untaken .small (omega (arith, length-take (r .reader .count) (r .reader .held))) in
+        let held = call-keeps call (heldBytes (r .reader)) untaken .small
+        (omega (arith, length-take (r .reader .count) (r .reader .held))) in
         let e : x .called .next .reader .count ≡ length (c .held) =
-        ap (λ (y : CallLeaves). y .called .next .reader .count) call-is ∙ ap (λ (y : Fed). y .next .count) (call-accepted call untaken (r .reader) l) in
+        ap (λ (y : CallLeaves). y .called .next .reader .count) call-is
+        ∙ ap (λ (y : Fed). y .next .count) (call-accepted call untaken (r .reader) l) in
         omega arith
 
     lawful-next : unlawfulRecord (x .called .next) ≡ false
     lawful-next =
-        record-accepted _ (record { count = reader-small; session = subst (λ (u : Session). unlawful u ≡ false) (sym session-is) (started-lawful s (f .frame) area lawful still started) })
+        record-accepted _ (record {
+          count = reader-small;
+          session =
+              subst (λ (u : Session). unlawful u ≡ false) (sym session-is) (started-lawful s (f .frame) area lawful still started);
+        })
 
     all-unread : unread (x .called .next .session .transfer) ≡ t .image .announced
-    all-unread = ap (λ (u : Session). unread (u .transfer)) session-is ∙ (let z : unread (withCheck t startedCheck) ≡ t .image .announced = omega arith in z)
+    all-unread =
+        ap (λ (u : Session). unread (u .transfer)) session-is
+        ∙ (let z : unread (withCheck t startedCheck) ≡ t .image .announced = omega arith in z)
 
     starts : Starts r x
     starts =
@@ -202,16 +222,21 @@ module _ (call : Call) (untaken : List ℕ) (r : Record) (channel : ℕ) (room a
 
       lent-same : (cs : List Later) → LendSameImage (t .image .announced) area cs → AllSame (x .called .next) lawful-next runs area Unit cs
       lent-same [] i = tt
-      lent-same (c ∷ cs) i =
-          (λ _ e. subst (λ (n : ℕ). take n (c .memory) ≡ take n area) (sym announced-is) (i .0 (ap (λ (n : ℕ). lendsEnough n c) (sym opened-is) ∙ e)), lent-same cs (i .1))
+      lent-same (c ∷ cs) i = (
+        λ _ e. subst (λ (n : ℕ). take n (c .memory) ≡ take n area) (sym announced-is)
+            (i .0 (ap (λ (n : ℕ). lendsEnough n c) (sym opened-is) ∙ e)),
+        lent-same cs (i .1),
+      )
 
       asked-is : bytesAsked (x .called .next .session .opened) cs ≡ bytesAsked (length area) cs
       asked-is = ap (λ (n : ℕ). bytesAsked n cs) opened-is
 
       before : bytesAsked (length area) cs < t .image .announced → NotYet r y
       before h =
-          let g = stands-at (x .called .next) lawful-next runs [] ⊥ cs (any-memory (x .called .next) lawful-next runs cs) .before (omega (arith, h, asked-is, all-unread)) in
-          let e : y .at .session ≡ checkingOn s (g .check) = g .session ∙ ap (λ (u : Session). withTransfer u (withCheck (u .transfer) (g .check))) session-is in
+          let g = stands-at (x .called .next) lawful-next runs [] ⊥ cs (any-memory (x .called .next) lawful-next runs cs) .before
+          (omega (arith, h, asked-is, all-unread)) in
+          let e : y .at .session ≡ checkingOn s (g .check) =
+          g .session ∙ ap (λ (u : Session). withTransfer u (withCheck (u .transfer) (g .check))) session-is in
           record {
             unfinished = g .unfinished;
             no-reply = g .no-reply;
@@ -220,7 +245,8 @@ module _ (call : Call) (untaken : List ℕ) (r : Record) (channel : ℕ) (room a
 
       module _ (same : LendSameImage (t .image .announced) area cs) (h : t .image .announced ≤ bytesAsked (length area) cs) where
         done : Done (x .called .next) lawful-next runs area Unit y
-        done = stands-at (x .called .next) lawful-next runs area Unit cs (lent-same cs same) .finally (omega (arith, h, asked-is, all-unread))
+        done =
+            stands-at (x .called .next) lawful-next runs area Unit cs (lent-same cs same) .finally (omega (arith, h, asked-is, all-unread))
 
         reply-is : y .replies ≡ encode (replyFrame 0xFE (inOneGo s (f .frame) area .reply)) ∷ []
         reply-is = done .reply tt ∙ ap (λ (w : Answer). encode (replyFrame 0xFE (w .reply)) ∷ []) (sym one-go)
@@ -228,8 +254,10 @@ module _ (call : Call) (untaken : List ℕ) (r : Record) (channel : ℕ) (room a
         state-is : y .replies ≡ stateFrame (t .leg .channel) (verdictState (cond (rightCrc t area) Right Wrong)) ∷ []
         state-is =
             done .reply tt
-            ∙ ap (λ (l : List ℕ). l ∷ []) (ended-reply (x .called .next .session .transfer) (willSay (x .called .next .session .transfer) area))
-            ∙ ap₂ (λ (k : ℕ) (b : Bool). stateFrame k (verdictState (cond b Right Wrong)) ∷ []) (ap (λ (u : Session). u .transfer .leg .channel) session-is) says-is
+            ∙ ap (λ (l : List ℕ). l ∷ [])
+            (ended-reply (x .called .next .session .transfer) (willSay (x .called .next .session .transfer) area))
+            ∙ ap₂ (λ (k : ℕ) (b : Bool). stateFrame k (verdictState (cond b Right Wrong)) ∷ [])
+            (ap (λ (u : Session). u .transfer .leg .channel) session-is) says-is
 
         success : (y .replies ≡ successFrame channel ∷ []) ↔ Complete t channel area
         success = go (rightCrc t area) refl
@@ -241,7 +269,10 @@ module _ (call : Call) (untaken : List ℕ) (r : Record) (channel : ℕ) (room a
             go true e =
                 let c = started-complete s (f .frame) channel area lawful size is still (sym runs-is ∙ runs) (eqb-true _ _ e) in
                 (λ _. c, λ _. at true e ∙ ap (λ (k : ℕ). stateFrame k 0 ∷ []) (sym (c .here)))
-            go false e = (λ w. absurd (let n = state-shows (t .leg .channel) channel 3 0 (sym (at false e) ∙ w) in omega arith), λ c. true-false (sym (eq-eqb _ _ (c .right)) ∙ e))
+            go false e = (
+              λ w. absurd (let n = state-shows (t .leg .channel) channel 3 0 (sym (at false e) ∙ w) in omega arith),
+              λ c. true-false (sym (eq-eqb _ _ (c .right)) ∙ e),
+            )
 
         finally : AsInOneGo r (f .frame) channel area y
         finally =
@@ -275,8 +306,10 @@ end-request-meets-check call untaken r channel room area ok runs found is =
     ∙ ap (λ (b : Bool). cond b 0 (cond listed 12 4)) not-f9 in
     (while-checking call untaken r room area runs .no-reply, (outcome, λ four c. go listed refl (sym outcome ∙ four) c))
   where
-    go : (b : Bool) → ltb (placeFor (r .session) (fedBy call untaken (r .reader) .frame)) (r .session .count) ≡ b → _≡_ {A = ℕ} (cond b 12 4) 4 → Complete (r .session .transfer) channel area → ⊥
+    go : (b : Bool) → ltb (placeFor (r .session) (fedBy call untaken (r .reader) .frame)) (r .session .count) ≡ b
+        → _≡_ {A = ℕ} (cond b 12 4) 4 → Complete (r .session .transfer) channel area → ⊥
     go true e four c = omega arith
     go false e four c =
         let a = accepted-of r (length room) (length area) ok in
-        unlisted-incomplete (r .session) (fedBy call untaken (r .reader) .frame) channel area (lawful-record r (a .lawful) .session) (a .size) is e c
+        unlisted-incomplete (r .session) (fedBy call untaken (r .reader) .frame) channel area (lawful-record r (a .lawful) .session)
+        (a .size) is e c

@@ -16,12 +16,14 @@ use Rattle.sequences.specs.Padding.{zeros}
 use Rattle.frames.specs.Reading.{reading}
 use Rattle.frames.specs.LiveReading.{CallResult, Call, feeding, quiet, called, heldBytes}
 use Rattle.frames.proofs.Calls.{call-keeps, held-again, quiet-emptied}
-use Rattle.transfer.specs.Portions.{unread, willSay}
+use Rattle.ending.specs.Portions.{unread, willSay}
 use Rattle.session.specs.declared.check.Checked.{Checked}
 use Rattle.session.proofs.Checks.{finished-by}
+use Rattle.controller.specs.Calls.{minRoom}
 use Rattle.controller.specs.declared.record.Record.{Record}
 use Rattle.controller.specs.Portions.{PortionLeaves, checkedPortion, CallKind, lineCall, portion}
-use Rattle.controller.specs.Demand3.{State, own, Listed, Place, checking, isAccepted, afterPortion, next, Allowed, RunStart, start, Ending, Demand3}
+use Rattle.controller.specs.Demand3.{State, own, Listed, Place, checking, isAccepted, afterPortion, next, Allowed, RunStart}
+use Rattle.controller.specs.Demand3.{start, Ending, Demand3}
 use Rattle.controller.proofs.Refusals.{record-accepted, accepts}
 use Rattle.controller.proofs.Steps.{stateOf, heldOf, givenState, landed, onOwn, next-landed}
 use Rattle.controller.proofs.Settling.{ended-still}
@@ -30,7 +32,7 @@ use Rattle.controller.proofs.StrayBytes.{startState, start-keeps, stray
 
 -- a room that is wide enough
 abbrev room : List ℕ
-room = zeros 33
+room = zeros minRoom
 
 or-true : (b : Bool) → (b || true) ≡ true
 or-true true = refl
@@ -41,11 +43,16 @@ module _ (s₀ : State) (fs : List Frame) (n : ℕ) where
   is-accepted k p i =
       eq-eqb _ 0
       (accepts (p .at) (length room) (length (p .area))
-      (record { lawful = record-accepted (p .at) (record { count = i .count; session = i .good .lawful }); size = i .good .size; wide = lit≤ tt }))
+      (record {
+        lawful = record-accepted (p .at) (record { count = i .count; session = i .good .lawful });
+        size = i .good .size;
+        wide = lit≤ tt;
+      }))
 
   -- a running check is finished first; then the run goes on
   rest-then : (p : Place) → Keeps s₀ fs n p
-      → ((q : Place) → Keeps s₀ fs n q → checking q ≡ false → q .at .reader ≡ p .at .reader → q .untaken ≡ p .untaken → q .quieted ≡ p .quieted → Ending q) → Ending p
+      → ((q : Place) → Keeps s₀ fs n q → checking q ≡ false → q .at .reader ≡ p .at .reader → q .untaken ≡ p .untaken
+      → q .quieted ≡ p .quieted → Ending q) → Ending p
   rest-then p i on = go (checking p) refl
     where
       most : ℕ
@@ -59,7 +66,9 @@ module _ (s₀ : State) (fs : List Frame) (n : ℕ) where
       go true e =
           let s = p .at .session in
           let x = finished-by s most (p .area) (i .good .lawful) (i .good .size) e (omega arith) in
-          let is = ap (λ (y : PortionLeaves). afterPortion y p) (portion-accepted most (p .at) room (p .area) (is-accepted (portion most) p i) ∙ ap (λ (c : Checked). checkedPortion c (p .at) room) (x .is)) in
+          let is = ap (λ (y : PortionLeaves). afterPortion y p)
+          (portion-accepted most (p .at) room (p .area) (is-accepted (portion most) p i)
+          ∙ ap (λ (c : Checked). checkedPortion c (p .at) room) (x .is)) in
           let still = ap checking is ∙ ended-still (s .transfer) (willSay (s .transfer) (p .area)) in
           let g = on (next m p) (next-keeps s₀ fs n m p i (tt, λ _. tt)) still (ap (λ (q : Place). q .at .reader) is) refl refl in
           record { calls = m ∷ g .calls; rules = ((tt, λ _. tt), g .rules); ended = g .ended }
@@ -83,7 +92,8 @@ module _ (s₀ : State) (fs : List Frame) (n : ℕ) where
       ok : Allowed m p
       ok = (tt, λ x. (z, still))
 
-      go : ((q : Place) → Keeps s₀ fs n q → checking q ≡ false → q .untaken ≡ [] → length (heldOf q) < k → Ending q) → (b : Bool) → c .found ≡ b → Ending p
+      go : ((q : Place) → Keeps s₀ fs n q → checking q ≡ false → q .untaken ≡ [] → length (heldOf q) < k → Ending q) → (b : Bool)
+          → c .found ≡ b → Ending p
       go ih true f =
           let w = call-keeps quiet (heldOf p) (p .untaken) in
           let used = w .found f in
@@ -93,7 +103,8 @@ module _ (s₀ : State) (fs : List Frame) (n : ℕ) where
           let less : length (heldOf (next m p)) < k = omega (arith, ap length x) in
           let g =
           rest-then (next m p) (next-keeps s₀ fs n m p i ok)
-          (λ q iq sq same left _. ih q iq sq (left ∙ y) (let l : length (heldOf q) ≡ length (heldOf (next m p)) = ap (λ (r : Reader). length (heldBytes r)) same in omega arith)) in
+          (λ q iq sq same left _. ih q iq sq (left ∙ y) (let l : length (heldOf q) ≡ length (heldOf (next m p)) =
+          ap (λ (r : Reader). length (heldBytes r)) same in omega arith)) in
           record { calls = m ∷ g .calls; rules = (ok, g .rules); ended = g .ended }
       go ih false f =
           record {
@@ -103,7 +114,9 @@ module _ (s₀ : State) (fs : List Frame) (n : ℕ) where
                 record {
                   quiet-came = ap (λ (q : Place). q .quieted) e ∙ ap (λ (b : Bool). p .quieted || b) yes ∙ or-true (p .quieted);
                   nothing-held = ap (λ (q : Place). q .at .reader .count) e ∙ ap length (quiet-emptied (heldOf p) (p .untaken) f);
-                  no-check = ap checking e ∙ ap (λ (b : Bool). cond b (givenState (stateOf p) (c .frame)) (stateOf p) .session .transfer .check .running) f ∙ still;
+                  no-check = ap checking e
+                      ∙ ap (λ (b : Bool). cond b (givenState (stateOf p) (c .frame)) (stateOf p) .session .transfer .check .running) f
+                      ∙ still;
                 };
           }
 
@@ -135,7 +148,8 @@ module _ (s₀ : State) (fs : List Frame) (n : ℕ) where
       x : heldOf (next m p) ≡ c .held
       x = ap heldOf e ∙ held-again (c .held)
 
-      go : ((q : Place) → Keeps s₀ fs n q → checking q ≡ false → length (heldOf q) + length (q .untaken) < k → Ending q) → (b : Bool) → c .found ≡ b → Ending p
+      go : ((q : Place) → Keeps s₀ fs n q → checking q ≡ false → length (heldOf q) + length (q .untaken) < k → Ending q) → (b : Bool)
+          → c .found ≡ b → Ending p
       go ih true f =
           let w = call-keeps a (heldOf p) (p .untaken) in
           let used = w .found f in
@@ -145,18 +159,21 @@ module _ (s₀ : State) (fs : List Frame) (n : ℕ) where
           let g =
           rest-then (next m p) (next-keeps s₀ fs n m p i ok)
           (λ q iq sq same same-left _.
-          ih q iq sq (let l : length (heldOf q) ≡ length (heldOf (next m p)) = ap (λ (r : Reader). length (heldBytes r)) same in omega (arith, ap length same-left))) in
+          ih q iq sq (let l : length (heldOf q) ≡ length (heldOf (next m p)) = ap (λ (r : Reader). length (heldBytes r)) same in
+          omega (arith, ap length same-left))) in
           record { calls = m ∷ g .calls; rules = (ok, g .rules); ended = g .ended }
       go ih false f =
           let taken = call-keeps a (heldOf p) (p .untaken) .unfound f in
           let y : next m p .untaken ≡ [] = left ∙ ap (λ (t : ℕ). drop t (p .untaken)) (taken ∙ all) ∙ drop-length (p .untaken) in
-          let none : checking (next m p) ≡ false = ap checking e ∙ ap (λ (b : Bool). cond b (givenState (stateOf p) (c .frame)) (stateOf p) .session .transfer .check .running) f ∙ still in
+          let none : checking (next m p) ≡ false = ap checking e
+          ∙ ap (λ (b : Bool). cond b (givenState (stateOf p) (c .frame)) (stateOf p) .session .transfer .check .running) f ∙ still in
           let g = quiet-out (suc (length (heldOf (next m p)))) (next m p) (next-keeps s₀ fs n m p i ok) none y (omega arith) in
           record { calls = m ∷ g .calls; rules = (ok, g .rules); ended = g .ended }
 
 pub ending-exists : (r : Record) (area : List ℕ) → RunStart r area → (b : List ℕ) → Bytes b → Ending (start r area b)
 ending-exists r area o b q =
-    feed-out (startState r area) (reading b .frames) (reading b .dropped) (suc (length (heldOf (start r area b)) + length b)) (start r area b) (start-keeps r area b o q) (o .no-check) (omega arith)
+    feed-out (startState r area) (reading b .frames) (reading b .dropped) (suc (length (heldOf (start r area b)) + length b))
+    (start r area b) (start-keeps r area b o q) (o .no-check) (omega arith)
 
 pub demand-3 : Demand3
 demand-3 = record { strays-cost-nothing = strays-cost-nothing; other-strays = other-strays; ends = ending-exists }

@@ -9,23 +9,20 @@ use borrow.Author.Tests.{eqb-true, eq-eqb}
 use lib.Dec.{eqb}
 use lib.ListN.{length, drop, length-take}
 use lib.Seq.{drop-nil}
-use Rattle.sequences.specs.Bytes.{Bytes}
-use Rattle.fronts.specs.Frame.{maxData, maxFrame, Frame, FrameBytes, encode}
+use Rattle.fronts.specs.Frame.{maxFrame, Frame, FrameBytes, encode}
 use Rattle.sequences.specs.Padding.{padded}
 use Rattle.frames.specs.Finished.{finished}
 use Rattle.frames.specs.LiveReading.{CallResult, Call, feeding, quiet, called, due}
 use Rattle.sequences.proofs.Orders.{lt-or-le}
 use Rattle.sequences.proofs.Conditionals.{of-both}
-use Rattle.sequences.proofs.Padding.{bytes-padded}
-use Rattle.frames.proofs.FinishedFrames.{finished-bytes}
 use Rattle.frames.proofs.Calls.{call-keeps, held-again}
 use Rattle.frames.proofs.Remains.{Remains, stateAfter, repliesOf, remains-called}
-use Rattle.commands.specs.Replies.{replyFrame}
+use Rattle.replies.specs.Replies.{replyFrame}
 use Rattle.transfer.specs.declared.state.Transfer.{Transfer}
 use Rattle.transfer.specs.declared.state.Step.{Step}
 use Rattle.transfer.specs.Transfers.{withCheck}
 use Rattle.image.specs.Checks.{readOn}
-use Rattle.transfer.specs.Portions.{unread, willSay}
+use Rattle.ending.specs.Portions.{unread, willSay}
 use Rattle.session.specs.declared.session.Session.{Session}
 use Rattle.session.specs.declared.check.Checked.{Checked}
 use Rattle.session.specs.Lawful.{unlawful}
@@ -36,7 +33,8 @@ use Rattle.session.proofs.Checks.{dueOf, unended, finished-by}
 use Rattle.controller.specs.declared.record.Record.{Record}
 use Rattle.controller.specs.Calls.{minRoom, refusalOf}
 use Rattle.controller.specs.Portions.{PortionLeaves, refusedPortion, checkedPortion, portionCall, CallKind, lineCall, portion}
-use Rattle.controller.specs.Demand3.{State, stepTo, replyTo, Lent, own, other, Listed, Place, lent, checking, isAccepted, isQuiet, afterPortion, next, Allowed}
+use Rattle.controller.specs.Demand3.{State, stepTo, replyTo, Lent, own, other, Listed, Place, lent, checking, isAccepted}
+use Rattle.controller.specs.Demand3.{isQuiet, afterPortion, next, Allowed}
 use Rattle.controller.proofs.Refusals.{accepted-of}
 use Rattle.controller.proofs.Steps.{stateOf, heldOf, givenState, givenReply, landed, onOwn, next-refused, next-landed}
 use Rattle.controller.proofs.Settling.{settledState, dueReply, verdict-reply, ended-still, landed-settled, landed-reply}
@@ -83,20 +81,32 @@ moved p t more =
 
 unmoved : (p : Place) → moved p (p .at .session .transfer) [] ≡ p
 unmoved p =
-    ap (λ (x : List (List ℕ)). record { at = p .at; area = p .area; untaken = p .untaken; replies = x; dropped = p .dropped; quieted = p .quieted }) (append-nil (p .replies))
+    ap (λ (x : List (List ℕ)). record {
+      at = p .at;
+      area = p .area;
+      untaken = p .untaken;
+      replies = x;
+      dropped = p .dropped;
+      quieted = p .quieted;
+    }) (append-nil (p .replies))
 
 -- ---- what a running check is to the state
 
 module _ (s : State) where
   running-settled : s .session .transfer .check .running ≡ true
       → settledState s ≡ record { session = withTransfer (s .session) (dueOf (s .session) (s .area) .transfer); area = s .area }
-  running-settled e = ap (λ (x : Bool). cond x (record { session = withTransfer (s .session) (dueOf (s .session) (s .area) .transfer); area = s .area }) s) e
+  running-settled e =
+      ap (λ (x : Bool). cond x (record { session = withTransfer (s .session) (dueOf (s .session) (s .area) .transfer); area = s .area })
+      s) e
 
-  running-due : s .session .transfer .check .running ≡ true → dueReply s ≡ encode (replyFrame 0xFE (dueOf (s .session) (s .area) .reply)) ∷ []
+  running-due : s .session .transfer .check .running ≡ true
+      → dueReply s ≡ encode (replyFrame 0xFE (dueOf (s .session) (s .area) .reply)) ∷ []
   running-due e = ap (λ (x : Bool). cond x (encode (replyFrame 0xFE (dueOf (s .session) (s .area) .reply)) ∷ []) []) e
 
   pub still-settled : s .session .transfer .check .running ≡ false → settledState s ≡ s
-  still-settled e = ap (λ (x : Bool). cond x (record { session = withTransfer (s .session) (dueOf (s .session) (s .area) .transfer); area = s .area }) s) e
+  still-settled e =
+      ap (λ (x : Bool). cond x (record { session = withTransfer (s .session) (dueOf (s .session) (s .area) .transfer); area = s .area })
+      s) e
 
   pub still-due : s .session .transfer .check .running ≡ false → dueReply s ≡ []
   still-due e = ap (λ (x : Bool). cond x (encode (replyFrame 0xFE (dueOf (s .session) (s .area) .reply)) ∷ []) []) e
@@ -118,29 +128,36 @@ module _ (s₀ : State) (fs : List Frame) (n : ℕ) where
   -- while no check runs nothing is due
   pub still-remains : (p : Place) → Keeps p → checking p ≡ false → Left (p .replies) (p .dropped) (stateOf p) (heldOf p) (p .untaken)
   still-remains p k still =
-      remains-as (ap (λ (x : List (List ℕ)). p .replies ++ x) (still-due (stateOf p) still) ∙ append-nil (p .replies)) (still-settled (stateOf p) still) (k .remains)
+      remains-as (ap (λ (x : List (List ℕ)). p .replies ++ x) (still-due (stateOf p) still) ∙ append-nil (p .replies))
+      (still-settled (stateOf p) still) (k .remains)
 
   -- ---- a call that reads
 
-  landed-keeps : (c : CallResult) (quieted : Bool) (p : Place) → Keeps p → checking p ≡ false → FrameBytes (c .frame) → length (c .held) ≤ maxFrame
-      → Left (p .replies ++ repliesOf stepTo replyTo c (stateOf p)) (p .dropped + c .dropped) (stateAfter stepTo replyTo c (stateOf p)) (c .held) (drop (c .taken) (p .untaken))
+  landed-keeps : (c : CallResult) (quieted : Bool) (p : Place) → Keeps p → checking p ≡ false → FrameBytes (c .frame)
+      → length (c .held) ≤ maxFrame
+      → Left (p .replies ++ repliesOf stepTo replyTo c (stateOf p)) (p .dropped + c .dropped) (stateAfter stepTo replyTo c (stateOf p))
+      (c .held) (drop (c .taken) (p .untaken))
       → (quieted ≡ true → drop (c .taken) (p .untaken) ≡ []) → Keeps (landed c quieted p)
   landed-keeps c quieted p k still b small m q =
       let e = held-again (c .held) in
       let given = repliesOf givenState givenReply c (stateOf p) in
       let more = dueReply (stateOf (landed c quieted p)) in
       record {
-        good = of-both Good (c .found) (givenState (stateOf p) (c .frame)) (stateOf p) (given-good (stateOf p) (c .frame) b (k .good)) (k .good);
+        good = of-both Good (c .found) (givenState (stateOf p) (c .frame)) (stateOf p) (given-good (stateOf p) (c .frame) b (k .good))
+            (k .good);
         count = small;
         remains =
-            subst (λ (x : List ℕ). Left ((p .replies ++ given) ++ more) (p .dropped + c .dropped) (settledState (stateOf (landed c quieted p))) x (drop (c .taken) (p .untaken))) (sym e)
-            (remains-as (ap (λ (x : List (List ℕ)). p .replies ++ x) (sym (landed-reply c quieted p still)) ∙ sym (append-assoc (p .replies) given more))
+            subst (λ (x : List ℕ). Left ((p .replies ++ given) ++ more) (p .dropped + c .dropped)
+            (settledState (stateOf (landed c quieted p))) x (drop (c .taken) (p .untaken))) (sym e)
+            (remains-as (ap (λ (x : List (List ℕ)). p .replies ++ x) (sym (landed-reply c quieted p still))
+            ∙ sym (append-assoc (p .replies) given more))
             (sym (landed-settled c quieted p still)) m);
         after-quiet = λ t. (q t, ap (padded maxFrame) (sym e));
       }
 
   -- once quiet came, nothing is left to take
-  none-left : (k : Call) (a : Bool) (p : Place) (t : ℕ) → Keeps p → due k (p .untaken) → (p .quieted || (isQuiet k && a)) ≡ true → drop t (p .untaken) ≡ []
+  none-left : (k : Call) (a : Bool) (p : Place) (t : ℕ) → Keeps p → due k (p .untaken) → (p .quieted || (isQuiet k && a)) ≡ true
+      → drop t (p .untaken) ≡ []
   none-left (feeding m) a p t i u q = ap (drop t) (i .after-quiet (sym (or-false (p .quieted)) ∙ q) .0) ∙ drop-nil t
     where
       or-false : (b : Bool) → (b || false) ≡ b
@@ -148,7 +165,8 @@ module _ (s₀ : State) (fs : List Frame) (n : ℕ) where
       or-false false = refl
   none-left quiet a p t i u q = ap (drop t) u ∙ drop-nil t
 
-  landed-call : (k : Call) (room : List ℕ) (p : Place) → Keeps p → isAccepted (onOwn k room) p ≡ true → due k (p .untaken) → checking p ≡ false → Keeps (next (onOwn k room) p)
+  landed-call : (k : Call) (room : List ℕ) (p : Place) → Keeps p → isAccepted (onOwn k room) p ≡ true → due k (p .untaken)
+      → checking p ≡ false → Keeps (next (onOwn k room) p)
   landed-call k room p i e u still =
       let h = heldOf p in
       let r = p .untaken in
@@ -166,13 +184,15 @@ module _ (s₀ : State) (fs : List Frame) (n : ℕ) where
 
   -- another transfer, with replies and state that come to the same
   moved-keeps : (p : Place) (t : Transfer) (more : List (List ℕ)) → Keeps p → unlawful (withTransfer (p .at .session) t) ≡ false
-      → dueReply (stateOf p) ≡ more ++ dueReply (stateOf (moved p t more)) → settledState (stateOf p) ≡ settledState (stateOf (moved p t more)) → Keeps (moved p t more)
+      → dueReply (stateOf p) ≡ more ++ dueReply (stateOf (moved p t more))
+      → settledState (stateOf p) ≡ settledState (stateOf (moved p t more)) → Keeps (moved p t more)
   moved-keeps p t more k ok e f =
       record {
         good = record { lawful = ok; size = k .good .size };
         count = k .count;
         remains =
-            remains-as (ap (λ (x : List (List ℕ)). p .replies ++ x) e ∙ sym (append-assoc (p .replies) more (dueReply (stateOf (moved p t more))))) f (k .remains);
+            remains-as (ap (λ (x : List (List ℕ)). p .replies ++ x) e
+            ∙ sym (append-assoc (p .replies) more (dueReply (stateOf (moved p t more))))) f (k .remains);
         after-quiet = k .after-quiet;
       }
 
@@ -197,8 +217,10 @@ module _ (s₀ : State) (fs : List Frame) (n : ℕ) where
         let u : State = record { session = withTransfer s t; area = p .area } in
         subst Keeps (sym (after-is _ (x .is)))
         (moved-keeps p t [] k (x .lawful-on)
-        (running-due (stateOf p) runs ∙ ap (λ (y : Step). encode (replyFrame 0xFE (y .reply)) ∷ []) (sym (x .same-due)) ∙ sym (running-due u runs))
-        (running-settled (stateOf p) runs ∙ ap (λ (y : Step). record { session = withTransfer s (y .transfer); area = p .area }) (sym (x .same-due)) ∙ sym (running-settled u runs)))
+        (running-due (stateOf p) runs ∙ ap (λ (y : Step). encode (replyFrame 0xFE (y .reply)) ∷ []) (sym (x .same-due))
+        ∙ sym (running-due u runs))
+        (running-settled (stateOf p) runs ∙ ap (λ (y : Step). record { session = withTransfer s (y .transfer); area = p .area })
+        (sym (x .same-due)) ∙ sym (running-settled u runs)))
 
     ended-keeps : checking p ≡ true → unread (s .transfer) ≤ most → Keeps after
     ended-keeps runs h =
@@ -209,7 +231,15 @@ module _ (s₀ : State) (fs : List Frame) (n : ℕ) where
         let more = encode (replyFrame 0xFE (d .reply)) ∷ [] in
         let replies = verdict-reply (s .transfer) (willSay (s .transfer) (p .area)) room wide in
         subst Keeps
-        (sym (after-is _ (x .is) ∙ ap (λ (y : List (List ℕ)). record { at = record { reader = p .at .reader; session = withTransfer s (d .transfer) }; area = p .area; untaken = p .untaken; replies = p .replies ++ y; dropped = p .dropped; quieted = p .quieted }) replies))
+        (sym (after-is _ (x .is)
+        ∙ ap (λ (y : List (List ℕ)). record {
+          at = record { reader = p .at .reader; session = withTransfer s (d .transfer) };
+          area = p .area;
+          untaken = p .untaken;
+          replies = p .replies ++ y;
+          dropped = p .dropped;
+          quieted = p .quieted;
+        }) replies))
         (moved-keeps p (d .transfer) more k (x .lawful-after)
         (running-due (stateOf p) runs ∙ sym (ap (λ (y : List (List ℕ)). more ++ y) (still-due u still)))
         (running-settled (stateOf p) runs ∙ sym (still-settled u still)))
@@ -223,8 +253,10 @@ module _ (s₀ : State) (fs : List Frame) (n : ℕ) where
 
   -- ---- any call
 
-  accepted-keeps : (kind : CallKind) (room : List ℕ) (lends : Lent) (p : Place) → Keeps p → Allowed (record { kind = kind; room = room; lends = lends }) p
-      → isAccepted (record { kind = kind; room = room; lends = lends }) p ≡ true → Keeps (next (record { kind = kind; room = room; lends = lends }) p)
+  accepted-keeps : (kind : CallKind) (room : List ℕ) (lends : Lent) (p : Place) → Keeps p
+      → Allowed (record { kind = kind; room = room; lends = lends }) p
+      → isAccepted (record { kind = kind; room = room; lends = lends }) p ≡ true
+      → Keeps (next (record { kind = kind; room = room; lends = lends }) p)
   accepted-keeps (lineCall k) room own p i a e = landed-call k room p i e (a .1 e .0) (a .1 e .1)
   accepted-keeps (portion most) room own p i a e =
       subst Keeps (sym (ap (λ (x : PortionLeaves). afterPortion x p) (portion-accepted most (p .at) room (p .area) e)))
@@ -233,11 +265,13 @@ module _ (s₀ : State) (fs : List Frame) (n : ℕ) where
   accepted-keeps kind room (other memory) p i a e =
       absurd (a .0 (accepted-of (p .at) (length room) (length memory) (eqb-true _ _ e) .size ∙ sym (i .good .size)))
 
-  refused-keeps : (kind : CallKind) (room : List ℕ) (lends : Lent) (p : Place) → Keeps p → isAccepted (record { kind = kind; room = room; lends = lends }) p ≡ false
+  refused-keeps : (kind : CallKind) (room : List ℕ) (lends : Lent) (p : Place) → Keeps p
+      → isAccepted (record { kind = kind; room = room; lends = lends }) p ≡ false
       → Keeps (next (record { kind = kind; room = room; lends = lends }) p)
   refused-keeps (lineCall k) room lends p i e = subst Keeps (sym (next-refused k room lends p e)) i
   refused-keeps (portion most) room lends p i e =
-      subst Keeps (sym (ap (λ (x : PortionLeaves). afterPortion x p) (portion-refused most (p .at) room (lent lends (p .area)) e) ∙ unmoved p)) i
+      subst Keeps (sym (ap (λ (x : PortionLeaves). afterPortion x p) (portion-refused most (p .at) room (lent lends (p .area)) e)
+      ∙ unmoved p)) i
 
   pub next-keeps : (c : Listed) (p : Place) → Keeps p → Allowed c p → Keeps (next c p)
   next-keeps c p i a = go (isAccepted c p) refl

@@ -9,20 +9,17 @@ use borrow.Author.Tests.{eqb-true}
 use lib.Dec.{eqb}
 use lib.ListN.{length, length-take, length-replicate}
 use Rattle.frames.specs.declared.reader.Fed.{Fed}
-use Rattle.sequences.specs.Bytes.{Bytes}
-use Rattle.fronts.specs.Frame.{maxData, maxFrame}
+use Rattle.fronts.specs.Frame.{maxFrame}
 use Rattle.sequences.specs.Padding.{zeros}
 use Rattle.frames.specs.Finished.{finished}
 use Rattle.frames.specs.LiveReading.{CallResult, Call, called, fedBy, heldBytes, handedBack}
 use Rattle.sequences.proofs.Orders.{lt-or-le}
-use Rattle.sequences.proofs.Padding.{bytes-padded}
-use Rattle.frames.proofs.FinishedFrames.{finished-bytes}
 use Rattle.frames.proofs.Calls.{call-accepted, call-keeps}
-use Rattle.transfer.specs.declared.board.Board.{Board}
-use Rattle.transfer.specs.Portions.{unread}
+use Rattle.boards.specs.declared.board.Board.{Board}
+use Rattle.ending.specs.Portions.{unread}
 use Rattle.session.specs.declared.session.Session.{Session}
 use Rattle.session.specs.declared.check.Checked.{Checked}
-use Rattle.session.specs.Boards.{maxBoards}
+use Rattle.boards.specs.Boards.{maxBoards}
 use Rattle.commands.specs.Outcomes.{accepted}
 use Rattle.session.specs.Lawful.{unlawful}
 use Rattle.session.specs.Checking.{checked}
@@ -47,10 +44,14 @@ finished-keeps c rest r room area ok = go (x .found) refl
     x = called c (heldBytes (r .reader)) rest
 
     small : length (x .held) ≤ maxFrame
-    small = call-keeps c (heldBytes (r .reader)) rest .small (omega (arith, length-take (r .reader .count) (r .reader .held), lawful-record r ok .count))
+    small =
+        call-keeps c (heldBytes (r .reader)) rest .small
+        (omega (arith, length-take (r .reader .count) (r .reader .held), lawful-record r ok .count))
 
     go : (b : Bool) → x .found ≡ b → unlawfulRecord (finishedCall (handedBack x) (r .session) room area .called .next) ≡ false
-    go true e = rw e (record-accepted _ (record { count = small; session = answer-keeps (r .session) (finished (x .frame)) area (lawful-record r ok .session) .accepted }))
+    go true e =
+        rw e (record-accepted _
+        (record { count = small; session = answer-keeps (r .session) (finished (x .frame)) area (lawful-record r ok .session) .accepted }))
     go false e = rw e (record-accepted _ (record { count = small; session = lawful-record r ok .session }))
 
 by-reading : (c : Call) (rest : List ℕ) (r : Record) (room area : List ℕ) → unlawfulRecord r ≡ false
@@ -60,11 +61,13 @@ by-reading c rest r room area ok = go (eqb (refusalOf r (length room) (length ar
     Good : CallLeaves → Type 0
     Good x = unlawfulRecord (x .called .next) ≡ false
 
-    go : (b : Bool) → eqb (refusalOf r (length room) (length area)) 0 ≡ b → unlawfulRecord (calledBy (fedBy c rest) r room area .called .next) ≡ false
+    go : (b : Bool) → eqb (refusalOf r (length room) (length area)) 0 ≡ b
+        → unlawfulRecord (calledBy (fedBy c rest) r room area .called .next) ≡ false
     go false e = subst Good (sym (calling-refused (fedBy c rest) r room area e)) ok
     go true e =
         subst Good
-        (sym (calling-accepted (fedBy c rest) r room area e ∙ ap (λ (f : Fed). finishedCall f (r .session) room area) (call-accepted c rest (r .reader) (lawful-record r ok .count))))
+        (sym (calling-accepted (fedBy c rest) r room area e
+        ∙ ap (λ (f : Fed). finishedCall f (r .session) room area) (call-accepted c rest (r .reader) (lawful-record r ok .count))))
         (finished-keeps c rest r room area ok)
 
 module _ (most : ℕ) (r : Record) (room area : List ℕ) (ok : unlawfulRecord r ≡ false) where
@@ -101,7 +104,8 @@ module _ (most : ℕ) (r : Record) (room area : List ℕ) (ok : unlawfulRecord r
       go false e = subst Good (sym (portion-refused most r room area e)) ok
       go true e = checked-keeps e (s .transfer .check .running) refl
 
-opened-lawful : (bs : List Board) (n area : ℕ) → length bs ≡ maxBoards → openedRecord bs n area .outcome ≡ accepted → unlawfulRecord (openedRecord bs n area .next) ≡ false
+opened-lawful : (bs : List Board) (n area : ℕ) → length bs ≡ maxBoards → openedRecord bs n area .outcome ≡ accepted
+    → unlawfulRecord (openedRecord bs n area .next) ≡ false
 opened-lawful bs n area ten z = opens bs n area ten .usable z (zeros area) (length-replicate {A = ℕ} area 0) .lawful
 
 pub lawful-kept : LawfulKept

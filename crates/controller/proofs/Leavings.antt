@@ -27,7 +27,8 @@ pub refusal-is : (r : Record) (room area : ℕ) → (refusalOf r room area ≡ 0
 unfolding refusalOf
 refusal-is r room area n = go (unlawfulRecord r) (not (eqb area (r .session .opened))) (ltb room minRoom) refl refl refl
   where
-    go : (a b c : Bool) → unlawfulRecord r ≡ a → not (eqb area (r .session .opened)) ≡ b → ltb room minRoom ≡ c → IsRefusal (refusalOf r room area)
+    go : (a b c : Bool) → unlawfulRecord r ≡ a → not (eqb area (r .session .opened)) ≡ b → ltb room minRoom ≡ c
+        → IsRefusal (refusalOf r room area)
     go true b c ea eb ec = inr (inr (simp ea))
     go false true c ea eb ec = inr (inl (simp (ea, eb)))
     go false false true ea eb ec = inl (simp (ea, eb, ec))
@@ -47,7 +48,8 @@ nine-only r room area e = go (unlawfulRecord r) (not (eqb area (r .session .open
     go false false true ea eb ec = absurd (let z = simp (ea, eb, ec) at e in omega arith)
     go false false false ea eb ec = absurd (let z = simp (ea, eb, ec) at e in omega arith)
 
-refused-leaves : (c : Call) (rest : List ℕ) (r : Record) (room area : List ℕ) (k : ℕ) → k ≡ refusalOf r (length room) (length area) → IsRefusal k
+refused-leaves : (c : Call) (rest : List ℕ) (r : Record) (room area : List ℕ) (k : ℕ) → k ≡ refusalOf r (length room) (length area)
+    → IsRefusal k
     → OutcomesLeave c rest r room area (record { called = refusedCall k r; room = room; area = area })
 refused-leaves c rest r room area k e bad =
     record {
@@ -85,7 +87,12 @@ finished-leaves c rest r room area lawful size = go (x .found) refl
           holds = λ _. refl;
           unanswered = λ _ n.
               let same = nothing-changed s f area n in
-              record { no-reply = rw (same .no-reply); same-session = same .session; same-room = rw (same .no-reply); same-area = same .same-area };
+              record {
+                no-reply = rw (same .no-reply);
+                same-session = same .session;
+                same-room = rw (same .no-reply);
+                same-area = same .same-area;
+              };
         })
     go false e =
         let p : NoRefusal 1 = (λ z. omega arith, (λ z. omega arith, λ z. omega arith)) in
@@ -100,7 +107,8 @@ finished-leaves c rest r room area lawful size = go (x .found) refl
 pub leaving : Leaving
 leaving c rest r room area = go (eqb (refusalOf r (length room) (length area)) 0) refl
   where
-    go : (b : Bool) → eqb (refusalOf r (length room) (length area)) 0 ≡ b → OutcomesLeave c rest r room area (calledBy (fedBy c rest) r room area)
+    go : (b : Bool) → eqb (refusalOf r (length room) (length area)) 0 ≡ b
+        → OutcomesLeave c rest r room area (calledBy (fedBy c rest) r room area)
     go false e =
         let k = refusalOf r (length room) (length area) in
         subst (OutcomesLeave c rest r room area) (sym (calling-refused (fedBy c rest) r room area e))
@@ -108,5 +116,6 @@ leaving c rest r room area = go (eqb (refusalOf r (length room) (length area)) 0
     go true e =
         let a = accepted-of r (length room) (length area) (eqb-true _ _ e) in
         subst (OutcomesLeave c rest r room area)
-        (sym (calling-accepted (fedBy c rest) r room area e ∙ ap (λ (f : Fed). finishedCall f (r .session) room area) (call-accepted c rest (r .reader) (lawful-record r (a .lawful) .count))))
+        (sym (calling-accepted (fedBy c rest) r room area e
+        ∙ ap (λ (f : Fed). finishedCall f (r .session) room area) (call-accepted c rest (r .reader) (lawful-record r (a .lawful) .count))))
         (finished-leaves c rest r room area (a .lawful) (a .size))

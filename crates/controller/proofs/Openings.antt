@@ -5,10 +5,10 @@ use mathlib.Core.List.{List}
 use Prim.Native.Nat.{ℕ}
 use native.Mathlib.Omega.{arith}
 use lib.ListN.{length}
-use Rattle.transfer.specs.declared.board.Board.{Board}
+use Rattle.boards.specs.declared.board.Board.{Board}
 use Rattle.session.specs.declared.session.Session.{Session}
 use Rattle.commands.specs.Outcomes.{accepted}
-use Rattle.session.specs.Boards.{maxBoards}
+use Rattle.boards.specs.Boards.{maxBoards}
 use Rattle.session.specs.Opening.{freshSession, opened}
 use Rattle.session.proofs.Openings.{open-usable, open-refused, none-unlawful}
 use Rattle.controller.specs.Records.{unlawfulRecord, holdingNothing, freshRecord, noRecord, openedRecord}
@@ -18,7 +18,8 @@ use Rattle.controller.proofs.Refusals.{record-accepted}
 pub record Opens (bs : List Board) (n size : ℕ) : Type 0 where
   -- "Opening that succeeds gives outcome 0 and the fresh record", from which a run can start on every area of that length
   pub fresh : openedRecord bs n size .outcome ≡ accepted → openedRecord bs n size .next ≡ freshRecord bs n size
-  pub usable : openedRecord bs n size .outcome ≡ accepted → (area : List ℕ) → length area ≡ size → RunStart (openedRecord bs n size .next) area
+  pub usable : openedRecord bs n size .outcome ≡ accepted → (area : List ℕ) → length area ≡ size
+      → RunStart (openedRecord bs n size .next) area
   -- "no usable record": all zero
   pub zero : (openedRecord bs n size .outcome ≡ accepted → ⊥) → openedRecord bs n size .next ≡ noRecord
 

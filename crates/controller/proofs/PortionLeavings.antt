@@ -12,9 +12,9 @@ use lib.Seq.{length-slice}
 use Rattle.sequences.proofs.Orders.{lt-or-le}
 use Rattle.sequences.proofs.Conditionals.{of-each}
 use Rattle.transfer.specs.declared.state.Transfer.{Transfer}
-use Rattle.transfer.specs.FE.{endedFE}
+use Rattle.ending.specs.FE.{endedFE}
 use Rattle.image.specs.Checks.{noCheck, portionSize, portionOf}
-use Rattle.transfer.specs.Portions.{unread, checkStep, willSay}
+use Rattle.ending.specs.Portions.{unread, checkStep, willSay}
 use Rattle.session.specs.declared.session.Session.{Session}
 use Rattle.session.specs.declared.check.Checked.{Checked}
 use Rattle.session.specs.Lawful.{unlawful}
@@ -57,7 +57,8 @@ module _ (most : ℕ) (r : Record) (room area : List ℕ) where
         nine = (λ z. nine-only r (length room) (length area) z, λ z. nine-given r (length room) (length area) z);
         six = λ ok. six-given r (length room) (length area) ok;
         five = λ ok size. five-given r (length room) (length area) ok size;
-        eighteen = λ ok size wide. absurd (nonzero (accepts r (length room) (length area) (record { lawful = ok; size = size; wide = wide })));
+        eighteen = λ ok size wide. absurd
+            (nonzero (accepts r (length room) (length area) (record { lawful = ok; size = size; wide = wide })));
         refused = λ _. refl;
         unfinished = λ z. absurd (known (refusal-is r (length room) (length area) nonzero) z);
         finished = λ z. absurd (nonzero z);
@@ -81,7 +82,8 @@ module _ (most : ℕ) (r : Record) (room area : List ℕ) where
     not-five : (n : ℕ) → (n ≡ 5 → ⊥) → (n ≡ 5) ↔ (length room < minRoom)
     not-five n h = (λ z. absurd (h z), λ z. absurd (omega (arith, a .wide, z)))
 
-    still-leaves : r .session .transfer .check .running ≡ false → PortionOutcomes most r room area (record { called = refusedPortion 18 r; room = room })
+    still-leaves : r .session .transfer .check .running ≡ false
+        → PortionOutcomes most r room area (record { called = refusedPortion 18 r; room = room })
     still-leaves still =
         record {
           nine = not-nine 18 (λ z. omega arith);
@@ -114,11 +116,13 @@ module _ (most : ℕ) (r : Record) (room area : List ℕ) where
         let l = lawful-session s lawful in
         let n = portionSize most (unread t) in
         let size : n ≤ unread t = smaller most (unread t) in
-        let bytes = length-slice (t .check .read) (t .check .read + n) area (omega (arith, l .check-unread runs, l .announced, a .size, size)) in
+        let bytes = length-slice (t .check .read) (t .check .read + n) area
+        (omega (arith, l .check-unread runs, l .announced, a .size, size)) in
         subst (Counted most t area) (sym (accepted-is e _ (is-portion s most area lawful (a .size) runs)))
         (record { amount = refl; bytes = omega (arith, bytes); says = refl; becomes = refl; number = refl })
 
-    running-leaves : eqb code 0 ≡ true → s .transfer .check .running ≡ true → PortionOutcomes most r room area (portionCall most r room area)
+    running-leaves : eqb code 0 ≡ true → s .transfer .check .running ≡ true
+        → PortionOutcomes most r room area (portionCall most r room area)
     running-leaves e runs = ⊎-elim goes ends (lt-or-le most (unread (s .transfer)))
       where
         goes : most < unread (s .transfer) → PortionOutcomes most r room area (portionCall most r room area)
@@ -133,7 +137,8 @@ module _ (most : ℕ) (r : Record) (room area : List ℕ) where
               unfinished = λ _. (refl, (refl, refl));
               finished = λ z. absurd (omega arith);
               past-reply = λ z. absurd (omega arith);
-              counted = λ _ _. subst (Counted most (s .transfer) area) (accepted-is e _ (unended s most area lawful (a .size) runs h .is)) (counts e runs);
+              counted = λ _ _. subst (Counted most (s .transfer) area)
+                  (accepted-is e _ (unended s most area lawful (a .size) runs h .is)) (counts e runs);
               same-list = refl;
               same-reader = refl;
             })
@@ -148,16 +153,23 @@ module _ (most : ℕ) (r : Record) (room area : List ℕ) where
               six = λ _. not-six _ (λ z. let y = sym zero ∙ z in omega arith);
               five = λ _ _. not-five _ (λ z. let y = sym zero ∙ z in omega arith);
               eighteen = λ _ _ _. (λ z. absurd (let y = sym zero ∙ z in omega arith), λ z. true-false (sym runs ∙ z));
-              refused = λ w. absurd (no-refusal _ (λ z. let y = sym zero ∙ z in omega arith) (λ z. let y = sym zero ∙ z in omega arith) (λ z. let y = sym zero ∙ z in omega arith) (λ z. let y = sym zero ∙ z in omega arith) w);
+              refused = λ w. absurd
+                  (no-refusal _ (λ z. let y = sym zero ∙ z in omega arith) (λ z. let y = sym zero ∙ z in omega arith)
+                  (λ z. let y = sym zero ∙ z in omega arith) (λ z. let y = sym zero ∙ z in omega arith) w);
               unfinished = λ z. absurd (let y = sym zero ∙ z in omega arith);
               finished = λ _. (
                 ended-none (s .transfer) (willSay (s .transfer) area),
-                verdict-reply (s .transfer) (willSay (s .transfer) area) room (a .wide) ∙ ap (λ (l : List ℕ). l ∷ []) (ended-reply (s .transfer) (willSay (s .transfer) area)),
+                verdict-reply (s .transfer) (willSay (s .transfer) area) room (a .wide)
+                    ∙ ap (λ (l : List ℕ). l ∷ []) (ended-reply (s .transfer) (willSay (s .transfer) area)),
               );
               past-reply = λ _.
                   verdict-room (s .transfer) (willSay (s .transfer) area) room (a .wide)
-                  ∙ ap (λ (l : List ℕ). l ++ drop (replySizeOf (endedFE (s .transfer) (willSay (s .transfer) area) .replies) 0xFE (endedFE (s .transfer) (willSay (s .transfer) area) .reply) room) room) (ended-reply (s .transfer) (willSay (s .transfer) area));
-              counted = λ _ _. subst (Counted most (s .transfer) area) (accepted-is e _ (finished-by s most area lawful (a .size) runs h .is)) (counts e runs);
+                  ∙ ap (λ (l : List ℕ). l ++ drop
+                  (replySizeOf (endedFE (s .transfer) (willSay (s .transfer) area) .replies) 0xFE
+                  (endedFE (s .transfer) (willSay (s .transfer) area) .reply) room) room)
+                  (ended-reply (s .transfer) (willSay (s .transfer) area));
+              counted = λ _ _. subst (Counted most (s .transfer) area)
+                  (accepted-is e _ (finished-by s most area lawful (a .size) runs h .is)) (counts e runs);
               same-list = refl;
               same-reader = refl;
             })
@@ -167,7 +179,9 @@ module _ (most : ℕ) (r : Record) (room area : List ℕ) where
       where
         go : (b : Bool) → s .transfer .check .running ≡ b → PortionOutcomes most r room area (portionCall most r room area)
         go true runs = running-leaves e runs
-        go false still = subst (PortionOutcomes most r room area) (sym (accepted-is e _ (no-check s most area lawful (a .size) still))) (still-leaves still)
+        go false still =
+            subst (PortionOutcomes most r room area) (sym (accepted-is e _ (no-check s most area lawful (a .size) still)))
+            (still-leaves still)
 
 pub portion-leaving : PortionLeaving
 portion-leaving most r room area = go (eqb (refusalOf r (length room) (length area)) 0) refl

@@ -50,15 +50,21 @@ pub six-given : (r : Record) (room area : ℕ) → unlawfulRecord r ≡ false �
 unfolding refusalOf
 six-given r room area ok = go (eqb area (r .session .opened)) (ltb room minRoom) refl refl
   where
-    go : (b c : Bool) → eqb area (r .session .opened) ≡ b → ltb room minRoom ≡ c → (refusalOf r room area ≡ 6) ↔ (area ≡ r .session .opened → ⊥)
+    go : (b c : Bool) → eqb area (r .session .opened) ≡ b → ltb room minRoom ≡ c
+        → (refusalOf r room area ≡ 6) ↔ (area ≡ r .session .opened → ⊥)
     go true true eb ec = rw (ok, eb, ec) (λ z. absurd (omega arith), λ n. absurd (n (eqb-true _ _ eb)))
     go true false eb ec = rw (ok, eb, ec) (λ z. absurd (omega arith), λ n. absurd (n (eqb-true _ _ eb)))
     go false c eb ec = rw (ok, eb) (λ _. eqb-false _ _ eb, λ _. refl)
 
-pub five-given : (r : Record) (room area : ℕ) → unlawfulRecord r ≡ false → area ≡ r .session .opened → (refusalOf r room area ≡ 5) ↔ (room < minRoom)
+pub five-given : (r : Record) (room area : ℕ) → unlawfulRecord r ≡ false → area ≡ r .session .opened
+    → (refusalOf r room area ≡ 5) ↔ (room < minRoom)
 unfolding refusalOf
 five-given r room area ok size = go (ltb room minRoom) refl
   where
     go : (c : Bool) → ltb room minRoom ≡ c → (refusalOf r room area ≡ 5) ↔ (room < minRoom)
     go true ec = rw (ok, eq-eqb area (r .session .opened) size, ec) (λ _. ltb-true _ _ ec, λ _. refl)
-    go false ec = rw (ok, eq-eqb area (r .session .opened) size, ec) (λ z. absurd (omega arith), λ h. absurd (let n = ltb-false room minRoom ec in omega arith))
+    go false ec =
+        rw (ok, eq-eqb area (r .session .opened) size, ec) (
+          λ z. absurd (omega arith),
+          λ h. absurd (let n = ltb-false room minRoom ec in omega arith),
+        )

@@ -29,7 +29,8 @@ use Rattle.controller.proofs.Refusals.{lawful-record, record-accepted, 
 use Rattle.controller.proofs.Steps.{calling-refused, calling-accepted}
 
 -- a lawful record refuses a call exactly where it does not lend enough
-pub enough : (r : Record) (c : Later) → unlawfulRecord r ≡ false → eqb (refusalOf r (length (c .room)) (length (c .memory))) 0 ≡ lendsEnough (r .session .opened) c
+pub enough : (r : Record) (c : Later) → unlawfulRecord r ≡ false
+    → eqb (refusalOf r (length (c .room)) (length (c .memory))) 0 ≡ lendsEnough (r .session .opened) c
 unfolding refusalOf
 enough r c ok = go (eqb (length (c .memory)) (r .session .opened)) (ltb (length (c .room)) minRoom) refl refl
   where
@@ -55,7 +56,9 @@ finished-leaves call untaken r room memory ok runs = go (x .found) refl
     x = called call (heldBytes (r .reader)) untaken
 
     small : length (x .held) ≤ maxFrame
-    small = call-keeps call (heldBytes (r .reader)) untaken .small (omega (arith, length-take (r .reader .count) (r .reader .held), lawful-record r ok .count))
+    small =
+        call-keeps call (heldBytes (r .reader)) untaken .small
+        (omega (arith, length-take (r .reader .count) (r .reader .held), lawful-record r ok .count))
 
     go : (b : Bool) → x .found ≡ b → LeavesLawful r room memory (finishedCall (handedBack x) (r .session) room memory)
     go true e =
@@ -72,7 +75,12 @@ finished-leaves call untaken r room memory ok runs = go (x .found) refl
                 same-room = ap (λ (b : Bool). replyRoomOf b (f .command) (a .reply) room) (y .no-reply);
                 same-memory = y .same-area;
               };
-          lawful-next = record-accepted _ (record { count = small; session = subst (λ (u : Session). unlawful u ≡ false) (sym (y .same-session)) (lawful-record r ok .session) });
+          lawful-next = record-accepted _
+              (record {
+                count = small;
+                session = subst (λ (u : Session). unlawful u ≡ false) (sym (y .same-session))
+                    (lawful-record r ok .session);
+              });
         })
     go false e =
         rw e
@@ -91,13 +99,15 @@ module _ (call : Call) (untaken : List ℕ) (r : Record) (room memory : List ℕ
 
   refused-leaves : code ≡ false → LeavesCheck r room memory y
   refused-leaves e =
-      subst (LeavesCheck r room memory) (sym (calling-refused (fedBy call untaken) r room memory e)) (record { same-session = refl; no-reply = refl; same-room = refl; same-memory = refl })
+      subst (LeavesCheck r room memory) (sym (calling-refused (fedBy call untaken) r room memory e))
+      (record { same-session = refl; no-reply = refl; same-room = refl; same-memory = refl })
 
   accepted-leaves : code ≡ true → isChecking r ≡ true → LeavesLawful r room memory y
   accepted-leaves e runs =
       let ok = accepted-of r (length room) (length memory) (eqb-true _ _ e) .lawful in
       subst (LeavesLawful r room memory)
-      (sym (calling-accepted (fedBy call untaken) r room memory e ∙ ap (λ (f : Fed). finishedCall f (r .session) room memory) (call-accepted call untaken (r .reader) (lawful-record r ok .count))))
+      (sym (calling-accepted (fedBy call untaken) r room memory e
+      ∙ ap (λ (f : Fed). finishedCall f (r .session) room memory) (call-accepted call untaken (r .reader) (lawful-record r ok .count))))
       (finished-leaves call untaken r room memory ok runs)
 
   pub reading-leaves : unlawfulRecord r ≡ false → isChecking r ≡ true → LeavesLawful r room memory y
@@ -105,13 +115,19 @@ module _ (call : Call) (untaken : List ℕ) (r : Record) (room memory : List ℕ
     where
       go : (b : Bool) → code ≡ b → LeavesLawful r room memory y
       go false e =
-          record { leaves = refused-leaves e; lawful-next = subst (λ (x : CallLeaves). unlawfulRecord (x .called .next) ≡ false) (sym (calling-refused (fedBy call untaken) r room memory e)) ok }
+          record {
+            leaves = refused-leaves e;
+            lawful-next =
+                subst (λ (x : CallLeaves). unlawfulRecord (x .called .next) ≡ false)
+                (sym (calling-refused (fedBy call untaken) r room memory e)) ok;
+          }
       go true e = accepted-leaves e runs
 
 pub while-checking : WhileChecking
 while-checking call untaken r room memory runs = go (eqb (refusalOf r (length room) (length memory)) 0) refl
   where
-    go : (b : Bool) → eqb (refusalOf r (length room) (length memory)) 0 ≡ b → LeavesCheck r room memory (calledBy (fedBy call untaken) r room memory)
+    go : (b : Bool) → eqb (refusalOf r (length room) (length memory)) 0 ≡ b
+        → LeavesCheck r room memory (calledBy (fedBy call untaken) r room memory)
     go false e = refused-leaves call untaken r room memory e
     go true e = accepted-leaves call untaken r room memory e runs .leaves
 
@@ -120,16 +136,19 @@ while-checking call untaken r room memory runs = go (eqb (refusalOf r (length ro
 -- a call that is not refused and found a frame, by its answer
 found-answers : (call : Call) (untaken : List ℕ) (r : Record) (room area : List ℕ) → refusalOf r (length room) (length area) ≡ accepted
     → fedBy call untaken (r .reader) .found ≡ true
-    → let f = fedBy call untaken (r .reader) in calledBy (fedBy call untaken) r room area .called ≡ answeredCall f (answered (r .session) (f .frame) area) room
+    → let f = fedBy call untaken (r .reader) in calledBy (fedBy call untaken) r room area .called ≡ answeredCall f
+    (answered (r .session) (f .frame) area) room
 unfolding finishedCall
-found-answers call untaken r room area ok found = ap (λ (y : CallLeaves). y .called) (calling-accepted (fedBy call untaken) r room area (eq-eqb _ _ ok)) ∙ rw found
+found-answers call untaken r room area ok found =
+    ap (λ (y : CallLeaves). y .called) (calling-accepted (fedBy call untaken) r room area (eq-eqb _ _ ok)) ∙ rw found
 
 pub frame-meets-check : FrameMeetsCheck
 frame-meets-check call untaken r room area ok runs found =
     let f = fedBy call untaken (r .reader) in
     let a = accepted-of r (length room) (length area) ok in
     ap (λ (c : Called). c .outcome) (found-answers call untaken r room area ok found)
-    ∙ ap (λ (w : Effect Answer). w .gives .outcome) (running-answers (r .session) (f .frame) area (lawful-record r (a .lawful) .session) (a .size) runs)
+    ∙ ap (λ (w : Effect Answer). w .gives .outcome)
+    (running-answers (r .session) (f .frame) area (lawful-record r (a .lawful) .session) (a .size) runs)
 
 -- a refusal is 9, 6 or 5
 not-twelve : (r : Record) (room area : ℕ) → refusalOf r room area ≡ 12 → ⊥
@@ -153,11 +172,13 @@ only-while-checking call untaken r room area twelve = by-code (eqb code 0) refl
     outcome : (w : CallLeaves) → calledBy (fedBy call untaken) r room area ≡ w → w .called .outcome ≡ 12
     outcome w e = ap (λ (x : CallLeaves). x .called .outcome) (sym e) ∙ twelve
 
-    runs : (b : Bool) → isChecking r ≡ b → f .found ≡ true → finishedCall f (r .session) room area .called .outcome ≡ 12 → isChecking r ≡ true
+    runs : (b : Bool) → isChecking r ≡ b → f .found ≡ true → finishedCall f (r .session) room area .called .outcome ≡ 12
+        → isChecking r ≡ true
     runs true e found = λ _. e
     runs false e found = rw found (λ z. absurd (still-answers (r .session) (f .frame) area e z))
 
-    by-found : (b : Bool) → f .found ≡ b → finishedCall f (r .session) room area .called .outcome ≡ 12 → (f .found ≡ true) × (isChecking r ≡ true)
+    by-found : (b : Bool) → f .found ≡ b → finishedCall f (r .session) room area .called .outcome ≡ 12
+        → (f .found ≡ true) × (isChecking r ≡ true)
     by-found true e = λ z. (e, runs (isChecking r) refl e z)
     by-found false e = rw e (λ z. absurd (omega arith))
 

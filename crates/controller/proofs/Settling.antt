@@ -9,12 +9,12 @@ use Rattle.frames.specs.Finished.{finished}
 use Rattle.frames.specs.LiveReading.{CallResult}
 use Rattle.frames.proofs.FinishedFrames.{finished-command}
 use Rattle.frames.proofs.Remains.{stateAfter, repliesOf}
-use Rattle.commands.specs.Replies.{replyFrame}
-use Rattle.commands.proofs.ReplyFrames.{reply-frames}
-use Rattle.commands.proofs.Replies.{reply-room}
+use Rattle.replies.specs.Replies.{replyFrame}
+use Rattle.replies.proofs.ReplyFrames.{reply-frames}
+use Rattle.replies.proofs.Replies.{reply-room}
 use Rattle.transfer.specs.declared.state.Transfer.{Transfer}
 use Rattle.image.specs.declared.check.Verdict.the-variants.{Right, Wrong}
-use Rattle.transfer.specs.FE.{endedFE}
+use Rattle.ending.specs.FE.{endedFE}
 use Rattle.session.specs.declared.answer.Answer.{Answer}
 use Rattle.commands.specs.Outcomes.{accepted}
 use Rattle.session.specs.Checking.{outcomeOf}
@@ -28,7 +28,9 @@ use Rattle.controller.proofs.Steps.{stateOf, given, givenState, givenRe
 
 -- the state once what is due is done, and FE's reply
 abbrev pub settledState : State → State
-settledState s = cond (s .session .transfer .check .running) (record { session = withTransfer (s .session) (dueOf (s .session) (s .area) .transfer); area = s .area }) s
+settledState s =
+    cond (s .session .transfer .check .running)
+    (record { session = withTransfer (s .session) (dueOf (s .session) (s .area) .transfer); area = s .area }) s
 
 abbrev pub dueReply : State → List (List ℕ)
 dueReply s = cond (s .session .transfer .check .running) (encode (replyFrame 0xFE (dueOf (s .session) (s .area) .reply)) ∷ []) []
@@ -50,14 +52,16 @@ ended-still t true = refl
 ended-still t false = refl
 
 -- its reply is the session's channel, and 00 or 03
-pub ended-reply : (t : Transfer) (right : Bool) → encode (replyFrame 0xFE (endedFE t right .reply)) ≡ stateFrame (t .leg .channel) (verdictState (cond right Right Wrong))
+pub ended-reply : (t : Transfer) (right : Bool) → encode (replyFrame 0xFE (endedFE t right .reply)) ≡ stateFrame (t .leg .channel)
+    (verdictState (cond right Right Wrong))
 unfolding endedFE
 ended-reply t true = ap encode (reply-frames .fe (t .leg .channel) 0)
 ended-reply t false = ap encode (reply-frames .fe (t .leg .channel) 3)
 
 -- in the room
 pub verdict-reply : (t : Transfer) (right : Bool) (room : List ℕ) → minRoom ≤ length room → let d = endedFE t right in
-    replyIn (replySizeOf (d .replies) 0xFE (d .reply) room) (replyRoomOf (d .replies) 0xFE (d .reply) room) ≡ encode (replyFrame 0xFE (d .reply)) ∷ []
+    replyIn (replySizeOf (d .replies) 0xFE (d .reply) room) (replyRoomOf (d .replies) 0xFE (d .reply) room) ≡ encode
+    (replyFrame 0xFE (d .reply)) ∷ []
 verdict-reply t right room wide =
     let d = endedFE t right in
     let reply = encode (replyFrame 0xFE (d .reply)) ∷ [] in
@@ -66,10 +70,12 @@ verdict-reply t right room wide =
 
 -- and the room past it stays
 pub verdict-room : (t : Transfer) (right : Bool) (room : List ℕ) → minRoom ≤ length room → let d = endedFE t right in
-    replyRoomOf (d .replies) 0xFE (d .reply) room ≡ encode (replyFrame 0xFE (d .reply)) ++ drop (replySizeOf (d .replies) 0xFE (d .reply) room) room
+    replyRoomOf (d .replies) 0xFE (d .reply) room ≡ encode (replyFrame 0xFE (d .reply)) ++ drop
+    (replySizeOf (d .replies) 0xFE (d .reply) room) room
 verdict-room t right room wide =
     let d = endedFE t right in
-    subst (λ (b : Bool). replyRoomOf b 0xFE (d .reply) room ≡ encode (replyFrame 0xFE (d .reply)) ++ drop (replySizeOf b 0xFE (d .reply) room) room) (sym (ended-replies t right))
+    subst (λ (b : Bool). replyRoomOf b 0xFE (d .reply) room ≡ encode (replyFrame 0xFE (d .reply)) ++ drop
+    (replySizeOf b 0xFE (d .reply) room) room) (sym (ended-replies t right))
     (reply-room 0xFE (d .reply) room (reply-frames .fe-replied) wide)
 
 -- a frame, while no check runs
@@ -86,20 +92,33 @@ module _ (s : State) (f : Frame) (still : s .session .transfer .check .running �
     where
       go : (b : Bool) → starts ≡ b → settledState (givenState s f) ≡ stepTo s f
       go false e =
-          ap (λ (x : Bool). cond x (record { session = withTransfer (given s f .session) (dueOf (given s f .session) (givenState s f .area) .transfer); area = givenState s f .area }) (givenState s f)) e
+          ap (λ (x : Bool). cond x
+          (record {
+            session = withTransfer (given s f .session) (dueOf (given s f .session) (givenState s f .area) .transfer);
+            area = givenState s f .area;
+          }) (givenState s f)) e
           ∙ ap (λ (a : Answer). record { session = a .session; area = givenState s f .area }) (sym (one-go-same e))
       go true e =
           let y = started-by (s .session) (finished f) (s .area) still e in
-          ap (λ (x : Bool). cond x (record { session = withTransfer (given s f .session) (dueOf (given s f .session) (givenState s f .area) .transfer); area = givenState s f .area }) (givenState s f)) e
-          ∙ ap (λ (m : List ℕ). record { session = withTransfer (given s f .session) (dueOf (given s f .session) m .transfer); area = givenState s f .area }) (y .same-area)
-          ∙ ap (λ (a : Answer). record { session = a .session; area = givenState s f .area }) (sym (started-due (s .session) (finished f) (s .area) e y))
+          ap (λ (x : Bool). cond x
+          (record {
+            session = withTransfer (given s f .session) (dueOf (given s f .session) (givenState s f .area) .transfer);
+            area = givenState s f .area;
+          }) (givenState s f)) e
+          ∙ ap (λ (m : List ℕ). record {
+            session = withTransfer (given s f .session) (dueOf (given s f .session) m .transfer);
+            area = givenState s f .area;
+          }) (y .same-area)
+          ∙ ap (λ (a : Answer). record { session = a .session; area = givenState s f .area })
+          (sym (started-due (s .session) (finished f) (s .area) e y))
 
   settled-reply : givenReply s f ++ dueReply (givenState s f) ≡ replyTo s f
   settled-reply = go starts refl
     where
       go : (b : Bool) → starts ≡ b → givenReply s f ++ dueReply (givenState s f) ≡ replyTo s f
       go false e =
-          ap (λ (x : Bool). givenReply s f ++ cond x (encode (replyFrame 0xFE (dueOf (given s f .session) (givenState s f .area) .reply)) ∷ []) []) e
+          ap (λ (x : Bool). givenReply s f ++ cond x
+          (encode (replyFrame 0xFE (dueOf (given s f .session) (givenState s f .area) .reply)) ∷ []) []) e
           ∙ append-nil (givenReply s f)
           ∙ ap (λ (a : Answer). cond (a .replies) (encode (replyFrame (f .command) (a .reply)) ∷ []) []) (sym (one-go-same e))
       go true e =
@@ -110,22 +129,30 @@ module _ (s : State) (f : Frame) (still : s .session .transfer .check .running �
           ∙ ap (λ (x : Bool). cond x (encode (replyFrame 0xFE (dueOf (given s f .session) (givenState s f .area) .reply)) ∷ []) []) e
           ∙ ap (λ (m : List ℕ). encode (replyFrame 0xFE (dueOf (given s f .session) m .reply)) ∷ []) (y .same-area)
           ∙ sym
-          (ap (λ (a : Answer). cond (a .replies) (encode (replyFrame (f .command) (a .reply)) ∷ []) []) (started-due (s .session) (finished f) (s .area) e y)
-          ∙ ap₂ (λ (b : Bool) (k : ℕ). cond b (encode (replyFrame k (d .reply)) ∷ []) []) (ended-replies (given s f .session .transfer) _) is-fe)
+          (ap (λ (a : Answer). cond (a .replies) (encode (replyFrame (f .command) (a .reply)) ∷ []) [])
+          (started-due (s .session) (finished f) (s .area) e y)
+          ∙ ap₂ (λ (b : Bool) (k : ℕ). cond b (encode (replyFrame k (d .reply)) ∷ []) [])
+          (ended-replies (given s f .session .transfer) _) is-fe)
 
 -- a call that read c, while no check runs
 module _ (c : CallResult) (quieted : Bool) (p : Place) (still : checking p ≡ false) where
   pub landed-settled : settledState (stateOf (landed c quieted p)) ≡ stateAfter stepTo replyTo c (stateOf p)
   landed-settled = go (c .found) refl
     where
-      go : (b : Bool) → c .found ≡ b → settledState (stateAfter givenState givenReply c (stateOf p)) ≡ stateAfter stepTo replyTo c (stateOf p)
+      go : (b : Bool) → c .found ≡ b → settledState (stateAfter givenState givenReply c (stateOf p)) ≡ stateAfter stepTo replyTo c
+          (stateOf p)
       go true e = rw e (settled-step (stateOf p) (c .frame) still)
-      go false e = rw e (ap (λ (x : Bool). cond x (record { session = withTransfer (p .at .session) (dueOf (p .at .session) (p .area) .transfer); area = p .area }) (stateOf p)) still)
+      go false e =
+          rw e (ap (λ (x : Bool). cond x
+          (record { session = withTransfer (p .at .session) (dueOf (p .at .session) (p .area) .transfer); area = p .area }) (stateOf p))
+          still)
 
-  pub landed-reply : repliesOf givenState givenReply c (stateOf p) ++ dueReply (stateOf (landed c quieted p)) ≡ repliesOf stepTo replyTo c (stateOf p)
+  pub landed-reply : repliesOf givenState givenReply c (stateOf p) ++ dueReply
+      (stateOf (landed c quieted p)) ≡ repliesOf stepTo replyTo c (stateOf p)
   landed-reply = go (c .found) refl
     where
       go : (b : Bool) → c .found ≡ b
-          → repliesOf givenState givenReply c (stateOf p) ++ dueReply (stateAfter givenState givenReply c (stateOf p)) ≡ repliesOf stepTo replyTo c (stateOf p)
+          → repliesOf givenState givenReply c (stateOf p) ++ dueReply
+          (stateAfter givenState givenReply c (stateOf p)) ≡ repliesOf stepTo replyTo c (stateOf p)
       go true e = rw e (settled-reply (stateOf p) (c .frame) still)
       go false e = rw e (ap (λ (x : Bool). cond x (encode (replyFrame 0xFE (dueOf (p .at .session) (p .area) .reply)) ∷ []) []) still)

@@ -15,13 +15,14 @@ use Rattle.frames.specs.LiveReading.{CallResult, Call, called, fedBy, heldBytes
 use Rattle.frames.proofs.FinishedFrames.{finished-command}
 use Rattle.frames.proofs.Calls.{call-accepted}
 use Rattle.frames.proofs.Remains.{stateAfter, repliesOf}
-use Rattle.commands.specs.Replies.{replyFrame, hasReply}
-use Rattle.commands.proofs.Replies.{reply-some, reply-front}
+use Rattle.replies.specs.Replies.{replyFrame, hasReply}
+use Rattle.replies.proofs.Replies.{reply-some, reply-front}
 use Rattle.session.specs.declared.answer.Answer.{Answer}
 use Rattle.session.specs.Answering.{answered, areaAfter}
 use Rattle.session.proofs.TableFrames.{replied-command}
 use Rattle.controller.specs.declared.record.Record.{Record}
-use Rattle.controller.specs.Calls.{minRoom, refusalOf, CallLeaves, refusedCall, replySizeOf, replyRoomOf, replyIn, finishedCall, calledBy}
+use Rattle.controller.specs.Calls.{minRoom, refusalOf, CallLeaves, refusedCall, replySizeOf, replyRoomOf, replyIn}
+use Rattle.controller.specs.Calls.{finishedCall, calledBy}
 use Rattle.controller.specs.Portions.{lineCall}
 use Rattle.controller.specs.Demand3.{State, Lent, own, other, Listed, Place, lent, isAccepted, isQuiet, after, next}
 use Rattle.controller.proofs.Refusals.{lawful-record, accepted-of}
@@ -58,9 +59,11 @@ landed c quieted p =
 -- ---- the reply in the room
 
 pub reply-in : (replies : Bool) (command : ℕ) (d room : List ℕ) → (replies ≡ true → hasReply command ≡ true) → minRoom ≤ length room
-    → replyIn (replySizeOf replies command d room) (replyRoomOf replies command d room) ≡ cond replies (encode (replyFrame command d) ∷ []) []
+    → replyIn (replySizeOf replies command d room) (replyRoomOf replies command d room) ≡ cond replies
+    (encode (replyFrame command d) ∷ []) []
 reply-in false command d room has wide = refl
-reply-in true command d room has wide = simp (ne-eqb _ 0 (reply-some command d room (has refl) wide), reply-front command d room (has refl) wide)
+reply-in true command d room has wide =
+    simp (ne-eqb _ 0 (reply-some command d room (has refl) wide), reply-front command d room (has refl) wide)
 
 finish-landed : (c : CallResult) (p : Place) (room : List ℕ) (quieted : Bool) → minRoom ≤ length room
     → after (finishedCall (handedBack c) (p .at .session) room (p .area)) own quieted p ≡ landed c quieted p
@@ -71,18 +74,40 @@ finish-landed c p room quieted wide = go (c .found) refl
     go true e =
         let a = answered (p .at .session) (finished (c .frame)) (p .area) in
         let has = replied-command (p .at .session) (finished (c .frame)) (p .area) in
-        let y = reply-in (a .replies) (c .frame .command) (a .reply) room (λ z. ap hasReply (sym (finished-command (c .frame))) ∙ has z) wide in
+        let y = reply-in (a .replies) (c .frame .command) (a .reply) room
+        (λ z. ap hasReply (sym (finished-command (c .frame))) ∙ has z) wide in
         simp (e, finished-command (c .frame), y)
     go false e = simp e
 
 -- ---- a call that is refused changes nothing
 
 unmoved : (quieted : Bool) (p : Place) → quieted ≡ p .quieted
-    → record { at = p .at; area = p .area; untaken = p .untaken; replies = p .replies ++ []; dropped = p .dropped + 0; quieted = quieted } ≡ p
+    → record {
+      at = p .at;
+      area = p .area;
+      untaken = p .untaken;
+      replies = p .replies ++ [];
+      dropped = p .dropped + 0;
+      quieted = quieted;
+    } ≡ p
 unmoved quieted p e =
     let d : p .dropped + 0 ≡ p .dropped = omega arith in
-    ap (λ (x : List (List ℕ)). record { at = p .at; area = p .area; untaken = p .untaken; replies = x; dropped = p .dropped + 0; quieted = quieted }) (append-nil (p .replies))
-    ∙ ap₂ (λ (x : ℕ) (y : Bool). record { at = p .at; area = p .area; untaken = p .untaken; replies = p .replies; dropped = x; quieted = y }) d e
+    ap (λ (x : List (List ℕ)). record {
+      at = p .at;
+      area = p .area;
+      untaken = p .untaken;
+      replies = x;
+      dropped = p .dropped + 0;
+      quieted = quieted;
+    }) (append-nil (p .replies))
+    ∙ ap₂ (λ (x : ℕ) (y : Bool). record {
+      at = p .at;
+      area = p .area;
+      untaken = p .untaken;
+      replies = p .replies;
+      dropped = x;
+      quieted = y;
+    }) d e
 
 refused-place : (k : ℕ) (room : List ℕ) (lends : Lent) (quieted : Bool) (p : Place) → quieted ≡ p .quieted
     → after (record { called = refusedCall k (p .at); room = room; area = lent lends (p .area) }) lends quieted p ≡ p
@@ -108,12 +133,15 @@ calling-accepted reads r room area e = rw e
 abbrev pub lending : Call → List ℕ → Lent → Listed
 lending k room lends = record { kind = lineCall k; room = room; lends = lends }
 
-pub next-refused : (k : Call) (room : List ℕ) (lends : Lent) (p : Place) → isAccepted (lending k room lends) p ≡ false → next (lending k room lends) p ≡ p
+pub next-refused : (k : Call) (room : List ℕ) (lends : Lent) (p : Place) → isAccepted (lending k room lends) p ≡ false
+    → next (lending k room lends) p ≡ p
 next-refused k room lends p e =
     let c = lending k room lends in
     let q = ap (λ (x : Bool). p .quieted || (isQuiet k && x)) e ∙ or-not (p .quieted) (isQuiet k) in
-    ap (λ (x : CallLeaves). after x lends (p .quieted || (isQuiet k && isAccepted c p)) p) (calling-refused (fedBy k (p .untaken)) (p .at) room (lent lends (p .area)) e)
-    ∙ refused-place (refusalOf (p .at) (length room) (length (lent lends (p .area)))) room lends (p .quieted || (isQuiet k && isAccepted c p)) p q
+    ap (λ (x : CallLeaves). after x lends (p .quieted || (isQuiet k && isAccepted c p)) p)
+    (calling-refused (fedBy k (p .untaken)) (p .at) room (lent lends (p .area)) e)
+    ∙ refused-place (refusalOf (p .at) (length room) (length (lent lends (p .area)))) room lends
+    (p .quieted || (isQuiet k && isAccepted c p)) p q
 
 -- ---- a call that is not refused, on the area itself
 
@@ -126,5 +154,6 @@ next-landed k room p e =
     let a = accepted-of (p .at) (length room) (length (p .area)) (eqb-true _ _ e) in
     let q = p .quieted || (isQuiet k && isAccepted (onOwn k room) p) in
     ap (λ (x : CallLeaves). after x own q p) (calling-accepted (fedBy k (p .untaken)) (p .at) room (p .area) e)
-    ∙ ap (λ (f : Fed). after (finishedCall f (p .at .session) room (p .area)) own q p) (call-accepted k (p .untaken) (p .at .reader) (lawful-record (p .at) (a .lawful) .count))
+    ∙ ap (λ (f : Fed). after (finishedCall f (p .at .session) room (p .area)) own q p)
+    (call-accepted k (p .untaken) (p .at .reader) (lawful-record (p .at) (a .lawful) .count))
     ∙ finish-landed (called k (heldOf p) (p .untaken)) p room q (a .wide)

@@ -6,13 +6,13 @@ use Prim.Native.Nat.{ℕ}
 use lib.Dec.{eqb}
 use lib.ListN.{take, replicate}
 use Rattle.sequences.specs.Padding.{zeros}
-use Rattle.transfer.specs.declared.board.Board.{Board}
+use Rattle.boards.specs.declared.board.Board.{Board}
 use Rattle.image.specs.declared.check.Verdict.{Verdict}
 use Rattle.image.specs.declared.check.Verdict.the-variants.{Unfinished, Right}
-use Rattle.session.specs.Boards.{noBoard}
+use Rattle.boards.specs.Boards.{noBoard}
 use Rattle.controller.specs.declared.record.Record.{Record}
 use Rattle.controller.specs.Records.{openedRecord}
-use Rattle.controller.specs.Calls.{fedCall}
+use Rattle.controller.specs.Calls.{minRoom, fedCall}
 use Rattle.controller.specs.Portions.{portionCall}
 use Rattle.controller.specs.OutwardReport.{reported, roomReported}
 
@@ -55,7 +55,7 @@ pub record Row : Type 0 where
 
 abbrev pub seen : Bool → Action → Record → List ℕ → Seen
 seen earlier (feeds bytes) r area =
-    let x = fedCall bytes r (zeros 33) area in
+    let x = fedCall bytes r (zeros minRoom) area in
     record {
       earlier = earlier;
       outcome = x .called .outcome;
@@ -68,7 +68,7 @@ seen earlier (feeds bytes) r area =
       verdict = Unfinished;
     }
 seen earlier (checks most) r area =
-    let x = portionCall most r (zeros 33) area in
+    let x = portionCall most r (zeros minRoom) area in
     record {
       earlier = earlier;
       outcome = x .called .outcome;
@@ -83,8 +83,8 @@ seen earlier (checks most) r area =
 seen earlier reports r area =
     record {
       earlier = earlier;
-      outcome = reported r (zeros 33) .outcome;
-      reply = take (reported r (zeros 33) .length) (roomReported r (zeros 33));
+      outcome = reported r (zeros minRoom) .outcome;
+      reply = take (reported r (zeros minRoom) .length) (roomReported r (zeros minRoom));
       taken = 0;
       dropped = 0;
       command = 0;
@@ -96,7 +96,7 @@ seen earlier reports r area =
 abbrev pub seenAfter : List (List ℕ) → Bool → Action → Record → List ℕ → Seen
 seenAfter [] earlier action r area = seen earlier action r area
 seenAfter (bytes ∷ more) earlier action r area =
-    let x = fedCall bytes r (zeros 33) area in
+    let x = fedCall bytes r (zeros minRoom) area in
     seenAfter more (earlier && eqb (x .called .outcome) 0) action (x .called .next) (x .area)
 
 abbrev pub got : List ℕ → Row → Seen
@@ -132,7 +132,9 @@ p6 = 0x55 ∷ 0xAA ∷ 0x00 ∷ 0xFC ∷ 0x00 ∷ 0x05 ∷ 0x0A ∷ 0x00 ∷ 0x0
 
 -- "an FB accepted for 9 bytes": version 1.0.3, MD5 zero, CRC-32 CBF43926
 abbrev pub fb9 : List ℕ
-fb9 = 0x55 ∷ 0xAA ∷ 0x10 ∷ 0xFB ∷ 0x00 ∷ 0x24 ∷ 0x0A ∷ zeros 8 ++ (1 ∷ 0 ∷ 3 ∷ zeros 16 ++ (0 ∷ 0 ∷ 0 ∷ 9 ∷ 0xCB ∷ 0xF4 ∷ 0x39 ∷ 0x26 ∷ 0x63 ∷ []))
+fb9 =
+    0x55 ∷ 0xAA ∷ 0x10 ∷ 0xFB ∷ 0x00 ∷ 0x24 ∷ 0x0A ∷ zeros 8 ++
+    (1 ∷ 0 ∷ 3 ∷ zeros 16 ++ (0 ∷ 0 ∷ 0 ∷ 9 ∷ 0xCB ∷ 0xF4 ∷ 0x39 ∷ 0x26 ∷ 0x63 ∷ []))
 
 -- "P7 .. packet 0, text 123456789", which "carries 4B 37 and the sum 8E" (document 02, K1);
 -- "P8 reply ..", whose "second answer becomes 00" (K2): sent again it gets the same reply
@@ -169,7 +171,17 @@ benchRow before action outcome reply taken dropped command L =
     record {
       before = before;
       action = action;
-      wanted = record { earlier = true; outcome = outcome; reply = reply; taken = taken; dropped = dropped; command = command; L = L; count = 0; verdict = Unfinished };
+      wanted = record {
+        earlier = true;
+        outcome = outcome;
+        reply = reply;
+        taken = taken;
+        dropped = dropped;
+        command = command;
+        L = L;
+        count = 0;
+        verdict = Unfinished;
+      };
     }
 
 -- before, the portion's largest number, outcome, reply, count, verdict
@@ -178,7 +190,17 @@ portionRow before most outcome reply count verdict =
     record {
       before = before;
       action = checks most;
-      wanted = record { earlier = true; outcome = outcome; reply = reply; taken = 0; dropped = 0; command = 0; L = 0; count = count; verdict = verdict };
+      wanted = record {
+        earlier = true;
+        outcome = outcome;
+        reply = reply;
+        taken = 0;
+        dropped = 0;
+        command = 0;
+        L = 0;
+        count = count;
+        verdict = verdict;
+      };
     }
 
 abbrev pub benchTable : List Row

@@ -8,7 +8,7 @@ use lib.ListN.{length, take}
 use Rattle.frames.specs.declared.reader.Reader.{Reader}
 use Rattle.frames.specs.declared.reader.Fed.{Fed}
 use Rattle.frames.specs.LiveReading.{fed, quieted}
-use Rattle.commands.specs.Replies.{replySize, replyRoom}
+use Rattle.replies.specs.Replies.{replySize, replyRoom}
 use Rattle.session.specs.declared.session.Session.{Session}
 use Rattle.session.specs.declared.answer.Answer.{Answer}
 use Rattle.commands.specs.Outcomes.{accepted, noFrameYet, shortRoom, otherArea, rulesBroken}
@@ -64,20 +64,34 @@ answeredCall f a room =
 
 -- outcome 1: "no whole frame yet"; "no reply; record differs in held bytes only"
 abbrev pub waitingCall : Fed → Session → Called
-waitingCall f s = record { outcome = noFrameYet; «reply_length» = 0; taken = f .taken; dropped = f .dropped; command = 0; «data_length» = 0; next = record { reader = f .next; session = s } }
+waitingCall f s =
+    record {
+      outcome = noFrameYet;
+      «reply_length» = 0;
+      taken = f .taken;
+      dropped = f .dropped;
+      command = 0;
+      «data_length» = 0;
+      next = record { reader = f .next; session = s };
+    }
 
 unfoldable pub finishedCall : Fed → Session → List ℕ → List ℕ → CallLeaves
 finishedCall f s room area =
     let a = answered s (f .frame) area in
     cond (f .found)
-    (record { called = answeredCall f a room; room = replyRoomOf (a .replies) (f .frame .command) (a .reply) room; area = areaAfter s (f .frame) area })
+    (record {
+      called = answeredCall f a room;
+      room = replyRoomOf (a .replies) (f .frame .command) (a .reply) room;
+      area = areaAfter s (f .frame) area;
+    })
     (record { called = waitingCall f s; room = room; area = area })
 
 -- a call that reads by `reads`
 unfoldable pub calledBy : (Reader → Fed) → Record → List ℕ → List ℕ → CallLeaves
 calledBy reads r room area =
     let code = refusalOf r (length room) (length area) in
-    cond (eqb code accepted) (finishedCall (reads (r .reader)) (r .session) room area) (record { called = refusedCall code r; room = room; area = area })
+    cond (eqb code accepted) (finishedCall (reads (r .reader)) (r .session) room area)
+    (record { called = refusedCall code r; room = room; area = area })
 
 -- feeding some bytes
 abbrev pub fedCall : List ℕ → Record → List ℕ → List ℕ → CallLeaves

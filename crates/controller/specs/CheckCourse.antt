@@ -12,7 +12,7 @@ use Rattle.frames.specs.declared.finished.FinishedFrame.{FinishedFrame}
 use Rattle.frames.specs.LiveReading.{Call, fedBy}
 use Rattle.image.specs.declared.check.Verdict.{Verdict}
 use Rattle.image.specs.declared.check.Verdict.the-variants.{Unfinished, Right, Wrong}
-use Rattle.transfer.specs.Portions.{unread}
+use Rattle.ending.specs.Portions.{unread}
 use Rattle.session.specs.Transfers.{ownTransfer}
 use Rattle.session.specs.declared.session.Session.{Session}
 use Rattle.commands.specs.Outcomes.{accepted, unlistedCommand, wrongHeader, unlistedChannel, checkRuns}

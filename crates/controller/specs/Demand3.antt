@@ -14,7 +14,7 @@ use Rattle.frames.specs.Finished.{finished}
 use Rattle.frames.specs.LiveReading.{Call, feeding, quiet, fedBy, due}
 use Rattle.frames.specs.Series.{Series}
 use Rattle.frames.specs.PlainRun.{Plain, plain, Begins}
-use Rattle.commands.specs.Replies.{replyFrame}
+use Rattle.replies.specs.Replies.{replyFrame}
 use Rattle.session.specs.declared.session.Session.{Session}
 use Rattle.session.specs.declared.answer.Answer.{Answer}
 use Rattle.commands.specs.Outcomes.{accepted}
@@ -200,8 +200,10 @@ pub record Demand3 : Type 0 where
       → (calls : List Listed) → AllAllowed calls (start r area b) → StrayFree (plainRun r area fs) n (run calls (start r area b))
   -- the same frames from the same start, with other stray bytes or none, end alike
   pub other-strays :
-      (r : Record) (area : List ℕ) → RunStart r area → {b b′ : List ℕ} {fs : List Frame} {n n′ : ℕ} → Series b fs n → Bytes b → Series b′ fs n′ → Bytes b′
+      (r : Record) (area : List ℕ) → RunStart r area → {b b′ : List ℕ} {fs : List Frame} {n n′ : ℕ} → Series b fs n → Bytes b
+      → Series b′ fs n′ → Bytes b′
       → (calls calls′ : List Listed) → AllAllowed calls (start r area b) → AllAllowed calls′ (start r area b′)
-      → Ended (run calls (start r area b)) → Ended (run calls′ (start r area b′)) → EqualAtEnd (run calls (start r area b)) (run calls′ (start r area b′))
+      → Ended (run calls (start r area b)) → Ended (run calls′ (start r area b′))
+      → EqualAtEnd (run calls (start r area b)) (run calls′ (start r area b′))
   -- every byte sequence can be run to its end, so that nothing is claimed of an empty set
   pub ends : (r : Record) (area : List ℕ) → RunStart r area → (b : List ℕ) → Bytes b → Ending (start r area b)

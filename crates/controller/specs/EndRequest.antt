@@ -11,10 +11,10 @@ use lib.ListN.{length}
 use Rattle.frames.specs.declared.finished.FinishedFrame.{FinishedFrame}
 use Rattle.fronts.specs.Frame.{encode}
 use Rattle.frames.specs.LiveReading.{Call, fedBy}
-use Rattle.commands.specs.Replies.{replyFrame}
+use Rattle.replies.specs.Replies.{replyFrame}
 use Rattle.image.specs.declared.check.Verdict.the-variants.{Unfinished, Right, Wrong}
-use Rattle.transfer.specs.FE.{reachesCrc}
-use Rattle.transfer.specs.Portions.{unread, rightCrc}
+use Rattle.ending.specs.FE.{reachesCrc}
+use Rattle.ending.specs.Portions.{unread, rightCrc}
 use Rattle.commands.specs.Outcomes.{accepted, unlistedChannel, checkRuns}
 use Rattle.session.specs.Answering.{placeFor}
 use Rattle.session.specs.OneGo.{inOneGo}

@@ -10,18 +10,18 @@ use lib.Seq.{slice}
 use Rattle.fronts.specs.Frame.{encode}
 use Rattle.frames.specs.LiveReading.{Call, heldBytes, holding, called, fedBy}
 use Rattle.commands.specs.States.{granted, refusedFE}
-use Rattle.commands.specs.Replies.{replyState}
+use Rattle.replies.specs.Replies.{replyState}
 use Rattle.image.specs.declared.check.Check.{Check}
-use Rattle.transfer.specs.declared.board.Board.{Board}
+use Rattle.boards.specs.declared.board.Board.{Board}
 use Rattle.image.specs.declared.check.Verdict.{Verdict}
 use Rattle.image.specs.declared.check.Verdict.the-variants.{Unfinished, Right, Wrong}
 use Rattle.transfer.specs.declared.state.Transfer.{Transfer}
 use Rattle.image.specs.Checks.{noCheck, portionSize, readOn, verdictOf}
 use Rattle.transfer.specs.Transfers.{withCheck}
-use Rattle.transfer.specs.Portions.{unread, stepBy}
+use Rattle.ending.specs.Portions.{unread, stepBy}
 use Rattle.session.specs.Transfers.{ownTransfer, withTransfer}
 use Rattle.session.specs.declared.session.Session.{Session}
-use Rattle.session.specs.Boards.{maxBoards}
+use Rattle.boards.specs.Boards.{maxBoards}
 use Rattle.commands.specs.Outcomes.{accepted, shortRoom, otherArea, rulesBroken, noCheckRuns, unfinished}
 use Rattle.session.specs.Checking.{outcomeOf}
 use Rattle.controller.specs.declared.record.Record.{Record}
@@ -56,7 +56,8 @@ pub record OutcomesLeave (c : Call) (rest : List ℕ) (r : Record) (room area : 
   pub unanswered : (IsRefusal (x .called .outcome) → ⊥) → (x .called .outcome ≡ accepted → ⊥) → SessionUnchanged r room area x
 
 abbrev pub Leaving : Type 0
-Leaving = (c : Call) (rest : List ℕ) (r : Record) (room area : List ℕ) → OutcomesLeave c rest r room area (calledBy (fedBy c rest) r room area)
+Leaving =
+    (c : Call) (rest : List ℕ) (r : Record) (room area : List ℕ) → OutcomesLeave c rest r room area (calledBy (fedBy c rest) r room area)
 
 -- ---- a portion call
 
@@ -99,14 +100,20 @@ pub record PortionOutcomes (most : ℕ) (r : Record) (room area : List ℕ) (x :
   -- 19: no reply, and the check's own fields alone change
   pub unfinished : x .called .outcome ≡ unfinished
       → (x .called .«reply_length» ≡ 0) × ((x .room ≡ room)
-      × (x .called .next ≡ record { reader = r .reader; session = checkingOn (r .session) (ownTransfer (x .called .next .session) .check) }))
+      × (x .called .next ≡ record {
+        reader = r .reader;
+        session =
+            checkingOn (r .session) (ownTransfer (x .called .next .session) .check);
+      }))
   -- "The call that reads the last byte gives the verdict and FE's reply .. and zeroes the check's own fields (outcome 0)"
   pub finished : x .called .outcome ≡ accepted
       → (ownTransfer (x .called .next .session) .check ≡ noCheck)
-      × (replyIn (x .called .«reply_length») (x .room) ≡ stateFrame (ownTransfer (r .session) .leg .channel) (verdictState (x .called .verdict)) ∷ [])
+      × (replyIn (x .called .«reply_length») (x .room) ≡ stateFrame (ownTransfer (r .session) .leg .channel)
+      (verdictState (x .called .verdict)) ∷ [])
   -- "Room past a reply .. stay"
   pub past-reply : x .called .outcome ≡ accepted
-      → x .room ≡ stateFrame (ownTransfer (r .session) .leg .channel) (verdictState (x .called .verdict)) ++ drop (x .called .«reply_length») room
+      → x .room ≡ stateFrame (ownTransfer (r .session) .leg .channel) (verdictState (x .called .verdict)) ++ drop
+      (x .called .«reply_length») room
   -- list and opened length stay on every outcome
   pub same-list : x .called .next .session ≡ withTransfer (r .session) (ownTransfer (x .called .next .session))
   -- "reports how many image bytes it read in this call"

@@ -8,7 +8,7 @@ use lib.Dec.{ltb, eqb}
 use lib.ListN.{length, drop}
 use Rattle.fronts.specs.Frame.{encode}
 use Rattle.commands.specs.Outcomes.{accepted, rulesBroken, shortReportRoom}
-use Rattle.session.specs.Report.{reportFrame}
+use Rattle.boards.specs.Report.{reportFrame}
 use Rattle.controller.specs.declared.record.Record.{Record}
 use Rattle.controller.specs.declared.report.Reported.{Reported}
 use Rattle.controller.specs.Records.{unlawfulRecord}
@@ -26,7 +26,9 @@ reported r room =
     record { outcome = code; length = cond (eqb code accepted) (reportLength r) 0 }
 
 unfoldable pub roomReported : Record → List ℕ → List ℕ
-roomReported r room = cond (eqb (reportRefusal r (length room)) accepted) (encode (reportFrame (r .session)) ++ drop (reportLength r) room) room
+roomReported r room =
+    cond (eqb (reportRefusal r (length room)) accepted)
+    (encode (reportFrame (r .session .boards) (r .session .count)) ++ drop (reportLength r) room) room
 
 pub record ReportLeaves (r : Record) (room : List ℕ) (x : Reported) (after : List ℕ) : Type 0 where
   pub gives : x ≡ reported r room

@@ -5,7 +5,7 @@ use Prim.Native.Nat.{ℕ}
 use lib.Dec.{ltb}
 use Rattle.fronts.specs.Frame.{maxFrame}
 use Rattle.frames.specs.LiveReading.{holding}
-use Rattle.transfer.specs.declared.board.Board.{Board}
+use Rattle.boards.specs.declared.board.Board.{Board}
 use Rattle.session.specs.Transfers.{ownTransfer}
 use Rattle.session.specs.declared.session.Session.{Session}
 use Rattle.session.specs.Opening.{noSession, freshSession, opened}

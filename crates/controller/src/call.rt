@@ -1,14 +1,13 @@
 // Feeding and quiet.
 use crate::record::Record;
+use commands::limits::MAX_REPLY;
 use commands::outcome;
-use commands::reply;
-use commands::reply::MAX_REPLY;
 use frames::reader::Fed;
 use fronts::OVERHEAD;
+use replies::reply;
 use session::session::Session;
 ghost use mathlib.Core.Path.{_≡_};
-ghost use Rattle.frames.specs.LiveReading.{fed, quieted};
-ghost use Rattle.controller.specs.Calls.{refusalOf, refusedCall, replySizeOf, ReplyLeft, finishedCall, fedCall, quietedCall, Leaves};
+ghost use Rattle.controller.specs.Calls.{refusalOf, refusedCall, ReplyLeft, finishedCall, fedCall, quietedCall, Leaves};
 
 // The least room for a reply: the longest one, FB's.
 pub const MIN_ROOM: usize = OVERHEAD + MAX_REPLY;
@@ -27,7 +26,8 @@ pub struct Called {
 impl Record {
     // Feeds new bytes from the line. `taken` of them are used; the others are to be offered again.
     pub fn feed(self, input: &[u8], room: &mut [u8], area: &mut [u8]) -> Called
-        ensures { λ c. ⌜ Leaves (fedCall (now (input .entry)) self (now (room .entry)) (now (area .entry))) c (now (room .exit)) (now (area .exit)) ⌝ }
+        ensures { λ c. ⌜ Leaves (fedCall (now (input .entry)) self (now (room .entry)) (now (area .entry))) c (now (room .exit))
+            (now (area .exit)) ⌝ }
     {
         let code = refusal(self, room.len(), area.len());
         if code != outcome::ACCEPTED {

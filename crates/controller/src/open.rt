@@ -1,10 +1,10 @@
 // Opening of the record.
 use crate::record::Record;
+use boards::board::Board;
+use boards::list::MAX_BOARDS;
 use frames::reader::Reader;
 use fronts::MAX_FRAME;
-use session::list::MAX_BOARDS;
 use session::session::Session;
-use transfer::board::Board;
 ghost use mathlib.Core.Path.{_≡_};
 ghost use Rattle.controller.specs.Records.{openedRecord};
 

@@ -1,12 +1,10 @@
 // The outward F9.
 use crate::record::Record;
+use boards::report;
+use boards::report::BOARD_SIZE;
+use boards::report::REPORT_OVERHEAD;
 use commands::outcome;
 ghost use Rattle.controller.specs.OutwardReport.{ReportLeaves};
-
-// Bytes of a report besides its boards, and of each board.
-const REPORT_OVERHEAD: usize = 8;
-
-const BOARD_SIZE: usize = 7;
 
 pub struct Reported {
     pub outcome: u8,
@@ -31,9 +29,10 @@ impl Record {
                 length: 0,
             };
         }
+        let boards = session.boards;
         Reported {
             outcome: outcome::ACCEPTED,
-            length: session.report(room),
+            length: report::write(boards, session.count, room),
         }
     }
 }

@@ -8,8 +8,10 @@ use native.Mathlib.Nat.{add-zero}
 use native.Mathlib.Numerals.{add-one}
 use native.Mathlib.Omega.{arith}
 use lib.Bits.{bitXor, xor-self, xor-zero-l, xor-zero-r, xor-lt}
-use lib.ListN.{length, take, drop, getD, set, replicate, length-append, length-drop, length-set, length-replicate, replicate-append-replicate}
-use lib.Seq.{paste, length-paste, sets, sets-eq, take-at, drop-at, take-set-le, drop-set-add, drop-cons, take-take, take-add, take-append-le, length-take-le, getD-drop, getD-set-same, getD-set-other}
+use lib.ListN.{length, take, drop, getD, set, replicate, length-append, length-drop, length-set, length-replicate}
+use lib.ListN.{replicate-append-replicate}
+use lib.Seq.{paste, length-paste, sets, sets-eq, take-at, drop-at, take-set-le, drop-set-add, drop-cons, take-take, take-add}
+use lib.Seq.{take-append-le, length-take-le, getD-drop, getD-set-same, getD-set-other}
 use Rattle.crc.specs.Crc.{Kind, byteStep, update}
 use Rattle.crc.specs.Tables.{zeroBytes}
 use Rattle.crc.specs.Folding.{sumOver, Within, Multiple, gathered, swept, unswept, standing, Stands, Carries, met, unmet}

@@ -7,7 +7,8 @@ use native.Mathlib.Omega.{arith}
 use lib.Bits.{xor-lt}
 use lib.ListN.{getD}
 use lib.Pow.{pow-pos, pow-mono, shl-lt}
-use Rattle.crc.specs.Crc.{Direction, normal, reflected, Kind, leaving, shifted, entering, bit, bits, byteStep, update, finish, checksum, crc16-modbus, crc32}
+use Rattle.crc.specs.Crc.{Direction, normal, reflected, Kind, leaving, shifted, entering, bit, bits, byteStep, update}
+use Rattle.crc.specs.Crc.{finish, checksum, crc16-modbus, crc32}
 use Rattle.crc.proofs.Xor.{odd-lt, of-bit}
 
 -- a kind whose parameters have its width

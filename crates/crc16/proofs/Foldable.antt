@@ -7,7 +7,7 @@ use Rattle.crc.specs.Folding.{Within, allWithin}
 use Rattle.crc.proofs.Bounds.{means-within}
 use Rattle.crc.proofs.Folding.{within-wider}
 use Rattle.crc.proofs.Multiples.{multiple-test, multiple}
-use Rattle.crc16.specs.declared.register.Parameters.{Parameters}
+use Rattle.crc16.specs.declared.parameters.Parameters.{Parameters}
 use Rattle.crc16.specs.Foldable.{kindFor, maxFar, Foldable}
 
 pub within-one : (p : Parameters) → Foldable p → Within 1 (p .far) (p .offsets)

@@ -4,7 +4,7 @@ use Prim.Native.Nat.{ℕ, _≤_}
 use Rattle.crc.specs.Crc.{Kind}
 use Rattle.crc.specs.Folding.{Within, Multiple, Carries, room}
 use Rattle.slicing16.specs.Kinds.{kindOf}
-use Rattle.crc16.specs.declared.register.Parameters.{Parameters}
+use Rattle.crc16.specs.declared.parameters.Parameters.{Parameters}
 
 -- the kind that the parameters are for
 abbrev pub kindFor : Parameters → Kind

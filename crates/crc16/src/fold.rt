@@ -1,5 +1,5 @@
 // The register over a long message: folded down to a few bytes, which the tables then take.
-use crate::register::Parameters;
+use crate::parameters::Parameters;
 use slicing16::register::front;
 use slicing16::register::rest;
 ghost use mathlib.Core.Path.{_≡_};

@@ -6,9 +6,10 @@
 mod ccitt_table;
 mod fold;
 mod modbus_table;
+mod parameters;
 mod register;
 
-use crate::register::Parameters;
+use crate::parameters::Parameters;
 use slicing16::register::Kind16;
 ghost use mathlib.Core.Path.{_≡_};
 ghost use Rattle.crc.specs.Crc.{checksum, crc16-ccitt, crc16-modbus};

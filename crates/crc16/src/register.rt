@@ -1,18 +1,10 @@
 // The register of any kind of 16 bits without a final xor, over all of a message.
 use crate::fold;
-use slicing16::register::Kind16;
+use crate::parameters::Parameters;
 ghost use mathlib.Core.Path.{_≡_};
 ghost use Rattle.crc.specs.Crc.{checksum};
 ghost use Rattle.crc.specs.Tables.{Tabled};
 ghost use Rattle.crc16.specs.Foldable.{kindFor, Foldable};
-
-// What such a kind has of its own: besides what `Kind16` has, the offsets of a multiple of its polynomial, the farthest of them again as
-// `far`.
-pub(crate) struct Parameters {
-    pub kind: Kind16,
-    pub offsets: [usize; 3],
-    pub far: usize,
-}
 
 // The register over all of s, which is its CRC.
 pub(crate) fn over(p: Parameters, t: &[u16; 256], s: &[u8]) -> u16

@@ -4,4 +4,6 @@
 //   rest.
 //
 // The link's memory, the controller's area and the output buffer are lent by the caller, with the image and the script's letters.
+mod answer;
 pub mod run;
+mod stored;

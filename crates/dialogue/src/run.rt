@@ -1,4 +1,6 @@
 // The run, turn by turn: what both ends and the link between them do.
+use crate::answer::answer;
+use crate::stored;
 use bench::AREA;
 use carrier::carrier::Carrier;
 use controller::call::MIN_ROOM;
@@ -12,11 +14,16 @@ use sender::decision::Decision;
 use sender::phase::Phase;
 use sender::sender::Sender;
 use sequences::part::begins;
-use sequences::part::front;
 use text::output::Output;
 use text::output::SIZE;
+ghost use mathlib.Core.Path.{_≡_};
+ghost use mathlib.Core.List.{List};
+ghost use Prim.Native.Nat.{ℕ};
 ghost use lib.ListN.{length};
+ghost use Rattle.dialogue.specs.Dialogues.{dialogueOf, TurnMade, isOver};
 ghost use Rattle.dialogue.specs.Starts.{Started};
+ghost use Rattle.dialogue.specs.Turns.{requestTurn, afterDecision, silenceTold, atSender, atController, checkPortion, turnOf};
+ghost use Rattle.dialogue.specs.Endings.{isDone, endTexts, EndingTold};
 
 // What is kept from turn to turn.
 pub struct Run {
@@ -30,7 +37,7 @@ pub struct Run {
 impl Run {
     // The controller has the bench's board on this channel; the sender's packets have this size.
     pub fn start(channel: u8, size: u16, script: Script, image: &[u8]) -> Run
-        ensures { λ r. ⌜ Started channel size (length (now (image .entry))) r ⌝ }
+        ensures { λ r. ⌜ Started channel size script (length (now (image .entry))) r ⌝ }
     {
         let sender = ends::open_sender(channel, size, image);
         let record = bench::open_on(channel);
@@ -43,21 +50,27 @@ impl Run {
     }
 
     // A failed write ends the run too.
-    pub fn is_over(self) -> bool {
+    pub fn is_over(self) -> bool
+        ensures { λ r. ⌜ r ≡ isOver self ⌝ }
+    {
         if self.carrier.output.failed {
             return true;
         }
         self.is_ended
     }
 
-    // The sender's request is sent.
+    // The sender's request is sent. The area is not lent, so whatever stands in it stays.
     pub fn request(
         mut self,
         image: &[u8],
         letters: &[u8],
         memory: &mut [u8; MEMORY],
         out: &mut [u8; SIZE],
-    ) -> Run {
+    ) -> Run
+        ensures { λ r. ⌜ ((area : List ℕ)
+            → TurnMade (requestTurn (dialogueOf self (now (memory .entry)) area) (now (image .entry)) (now (letters .entry)))
+            (self .carrier .output) (now (out .entry)) r (now (memory .exit)) area (now (out .exit))) ⌝ }
+    {
         let sender = self.sender;
         let carrier = self.carrier;
         self.carrier = carrier.send(ends::request(sender, image), letters, memory, out);
@@ -72,7 +85,11 @@ impl Run {
         memory: &mut [u8; MEMORY],
         area: &mut [u8; AREA],
         out: &mut [u8; SIZE],
-    ) -> Run {
+    ) -> Run
+        ensures { λ r. ⌜ TurnMade
+            (turnOf (dialogueOf self (now (memory .entry)) (now (area .entry))) (now (image .entry)) (now (letters .entry)))
+            (self .carrier .output) (now (out .entry)) r (now (memory .exit)) (now (area .exit)) (now (out .exit)) ⌝ }
+    {
         let record = self.record;
         if record.is_checking() {
             return self.check(image, letters, memory, area, out);
@@ -104,7 +121,10 @@ impl Run {
         memory: &[u8; MEMORY],
         area: &[u8; AREA],
         out: &mut [u8; SIZE],
-    ) -> Output {
+    ) -> Output
+        ensures { λ r. ⌜ EndingTold (endTexts (dialogueOf self (now (memory .entry)) (now (area .entry))) (now (image .entry)))
+            (self .carrier .output) (now (out .entry)) r (now (out .exit)) ⌝ }
+    {
         let carrier = self.carrier.cleared(b"left", memory, &mut *out);
         let session = self.record.session;
         let transfer = session.transfer;
@@ -129,7 +149,11 @@ impl Run {
         letters: &[u8],
         memory: &mut [u8; MEMORY],
         out: &mut [u8; SIZE],
-    ) -> Run {
+    ) -> Run
+        ensures { λ r. ⌜ ((area : List ℕ)
+            → TurnMade (silenceTold (dialogueOf self (now (memory .entry)) area) (now (image .entry)) (now (letters .entry)))
+            (self .carrier .output) (now (out .entry)) r (now (memory .exit)) area (now (out .exit))) ⌝ }
+    {
         let sender = self.sender;
         let d = sender.silence(image);
         let decision = d.decision;
@@ -146,7 +170,11 @@ impl Run {
         letters: &[u8],
         memory: &mut [u8; MEMORY],
         out: &mut [u8; SIZE],
-    ) -> Run {
+    ) -> Run
+        ensures { λ r. ⌜ ((area : List ℕ)
+            → TurnMade (atSender (dialogueOf self (now (memory .entry)) area) frame (now (image .entry)) (now (letters .entry)))
+            (self .carrier .output) (now (out .entry)) r (now (memory .exit)) area (now (out .exit))) ⌝ }
+    {
         let sender = self.sender;
         let d = ends::hear(sender, frame, image);
         let decision = d.decision;
@@ -170,19 +198,28 @@ impl Run {
         letters: &[u8],
         memory: &mut [u8; MEMORY],
         out: &mut [u8; SIZE],
-    ) -> Run {
+    ) -> Run
+        ensures { λ r. ⌜ ((area : List ℕ)
+            → TurnMade (afterDecision d (dialogueOf self (now (memory .entry)) area) (now (image .entry)) (now (letters .entry)))
+            (self .carrier .output) (now (out .entry)) r (now (memory .exit)) area (now (out .exit))) ⌝ }
+    {
         let next = d.next;
         self.sender = next;
         let decision = d.decision;
         match decision {
             Decision::Nothing => self,
-            Decision::GoOn | Decision::SendAgain => self.request(image, letters, memory, out),
+            Decision::GoOn => self.request(image, letters, memory, out),
+            Decision::SendAgain => self.request(image, letters, memory, out),
             Decision::NewLeg => {
                 let carrier = self.carrier;
                 self.carrier = carrier.cleared(b"dropped", memory, &mut *out);
                 self.request(image, letters, memory, out)
             }
-            Decision::Done | Decision::GivenUp => {
+            Decision::Done => {
+                self.is_ended = true;
+                self
+            }
+            Decision::GivenUp => {
                 self.is_ended = true;
                 self
             }
@@ -197,81 +234,61 @@ impl Run {
         memory: &mut [u8; MEMORY],
         area: &mut [u8; AREA],
         out: &mut [u8; SIZE],
-    ) -> Run {
+    ) -> Run
+        ensures { λ r. ⌜ TurnMade
+            (atController (dialogueOf self (now (memory .entry)) (now (area .entry))) frame (now (image .entry)) (now (letters .entry)))
+            (self .carrier .output) (now (out .entry)) r (now (memory .exit)) (now (area .exit)) (now (out .exit)) ⌝ }
+    {
         let mut room = [0u8; MIN_ROOM];
         let record = self.record;
         let c = ends::feed(record, frame, &mut room, &mut *area);
-        let mut carrier = self.carrier;
-        carrier.output = transcript::at_controller(carrier.output, frame, c.outcome, &mut *out);
-        self.carrier = carrier;
         let next = c.next;
-        let run = self.with_record(next, image, area, &mut *out);
-        run.answer(room, c.reply_length, letters, memory, out)
+        let mut carrier = self.carrier;
+        let told = transcript::at_controller(carrier.output, frame, c.outcome, &mut *out);
+        carrier.output = stored::tell(told, record, next, image, area, &mut *out);
+        self.record = next;
+        self.carrier = answer(carrier, room, c.reply_length, letters, memory, out);
+        self
     }
 
-    // With the verdict comes the reply to the end request.
+    // A portion has no line of its own. With the verdict comes the reply to the end request.
     fn check(
-        self,
+        mut self,
         image: &[u8],
         letters: &[u8],
         memory: &mut [u8; MEMORY],
         area: &[u8; AREA],
         out: &mut [u8; SIZE],
-    ) -> Run {
+    ) -> Run
+        ensures { λ r. ⌜ TurnMade
+            (checkPortion (dialogueOf self (now (memory .entry)) (now (area .entry))) (now (image .entry)) (now (letters .entry)))
+            (self .carrier .output) (now (out .entry)) r (now (memory .exit)) (now (area .entry)) (now (out .exit)) ⌝ }
+    {
         let mut room = [0u8; MIN_ROOM];
         let record = self.record;
         let p = ends::check(record, &mut room, area);
         let next = p.next;
-        let run = self.with_record(next, image, area, &mut *out);
-        run.answer(room, p.reply_length, letters, memory, out)
-    }
-
-    // The controller's reply, if there is one, is sent.
-    fn answer(
-        mut self,
-        room: [u8; MIN_ROOM],
-        length: usize,
-        letters: &[u8],
-        memory: &mut [u8; MEMORY],
-        out: &mut [u8; SIZE],
-    ) -> Run {
-        if length == 0 {
-            return self;
-        }
-        let carrier = self.carrier;
-        self.carrier = carrier.send(ends::reply(room, length), letters, memory, out);
-        self
-    }
-
-    // A changed stored length gets a line.
-    fn with_record(
-        mut self,
-        record: Record,
-        image: &[u8],
-        area: &[u8; AREA],
-        out: &mut [u8; SIZE],
-    ) -> Run {
-        let before = self.record.session.transfer.progress.stored;
-        let stored = record.session.transfer.progress.stored;
-        self.record = record;
-        if stored == before {
-            return self;
-        }
-        let all: &[u8] = area;
-        let is_same = begins(image, front(all, stored));
         let mut carrier = self.carrier;
-        carrier.output = transcript::stored(carrier.output, stored, image.len(), is_same, out);
-        self.carrier = carrier;
+        carrier.output = stored::tell(carrier.output, record, next, image, area, &mut *out);
+        self.record = next;
+        self.carrier = answer(carrier, room, p.reply_length, letters, memory, out);
         self
     }
 
-    fn is_done(self) -> bool {
+    fn is_done(self) -> bool
+        ensures { λ r. ⌜ r ≡ isDone (self .sender .position .phase) ⌝ }
+    {
         let sender = self.sender;
         let position = sender.position;
         let phase = position.phase;
         match phase {
+            Phase::Asking => false,
+            Phase::Telling => false,
+            Phase::Placing => false,
+            Phase::Sending => false,
+            Phase::Ending => false,
             Phase::Done => true,
-            _ => false,
+            Phase::GivenUp => false,
         }
     }
 }

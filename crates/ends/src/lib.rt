@@ -19,7 +19,7 @@ ghost use lib.ListN.{length};
 ghost use Rattle.sender.specs.Replies.{afterReply};
 ghost use Rattle.controller.specs.Calls.{fedCall, Leaves};
 ghost use Rattle.controller.specs.Portions.{portionCall, PortionLeft};
-ghost use Rattle.bench.specs.Portions.{mostRead};
+ghost use Rattle.bench.specs.Calls.{mostRead};
 ghost use Rattle.ends.specs.Ends.{SenderOpens, requestSent, replySent, frameBytes};
 
 // A sender of this image to the bench's board on that channel. Opening refuses no size from 16 on and no image that has a byte and fits.
@@ -71,7 +71,8 @@ pub fn feed(
     room: &mut [u8; MIN_ROOM],
     area: &mut [u8; AREA],
 ) -> Called
-    ensures { λ c. ⌜ Leaves (fedCall (frameBytes frame) «record» (now (room .entry)) (now (area .entry))) c (now (room .exit)) (now (area .exit)) ⌝ }
+    ensures { λ c. ⌜ Leaves (fedCall (frameBytes frame) «record» (now (room .entry)) (now (area .entry))) c (now (room .exit))
+        (now (area .exit)) ⌝ }
 {
     let bytes = frame.bytes;
     record.feed(front(&bytes, frame.length), room, area)

@@ -85,7 +85,8 @@ fn start(words: Words, script: Script, image: &[u8]) -> Run
     requires { ⌜ InRange words ⌝ }
     requires { ⌜ 0 < length (now image) ⌝ }
     requires { ⌜ length (now image) ≤ maxArea ⌝ }
-    ensures { λ r. ⌜ (r .record ≡ freshOn (words .channel)) × (r .sender ≡ openSender (words .channel) (words .size) (length (now (image .entry)))) ⌝ }
+    ensures { λ r. ⌜ (r .record ≡ freshOn (words .channel)) ×
+        (r .sender ≡ openSender (words .channel) (words .size) (length (now (image .entry)))) ⌝ }
 {
     Run::start(words.channel, words.size, script, image)
 }

@@ -12,12 +12,14 @@ use Rattle.sequences.specs.Bytes.{Bytes}
 use Rattle.fronts.specs.Frame.{FrameBytes, maxData, maxFrame, frameSize, lengthAt}
 use Rattle.fronts.specs.Fronts.{frontOf, isWhole}
 use Rattle.frames.specs.Reading.{Reading, reading}
-use Rattle.frames.specs.LiveReading.{CallResult, withFrame, feedingCall, quietCall, heldBytes, holding, handedBack, refused, fed, quieted, Call, feeding, quiet, called, fedBy, offered, due, calledThen, CallKeeps}
+use Rattle.frames.specs.LiveReading.{CallResult, withFrame, feedingCall, quietCall, heldBytes, holding, handedBack, refused}
+use Rattle.frames.specs.LiveReading.{fed, quieted, Call, feeding, quiet, called, fedBy, offered, due, calledThen, CallKeeps}
 use Rattle.sequences.proofs.Bytes.{bytes-drop, bytes-take}
 use Rattle.sequences.proofs.Padding.{take-padded}
 use Rattle.fronts.proofs.Fronts.{is-whole, whole-passed}
 use Rattle.frames.proofs.Readings.{reading-whole, reading-stray}
-use Rattle.frames.proofs.Steps.{steps, steps-within, steps-found, steps-unfound, steps-small, whole-short, whole-bytes, steps-short, steps-bytes, droppedBefore, steps-reading}
+use Rattle.frames.proofs.Steps.{steps, steps-within, steps-found, steps-unfound, steps-small, whole-short, whole-bytes}
+use Rattle.frames.proofs.Steps.{steps-short, steps-bytes, droppedBefore, steps-reading}
 
 -- ---- on a reader
 
@@ -38,7 +40,8 @@ module _ (r : Reader) where
   unfolding quieted
   quieted-refused h = rw (lt-leb (r .count) maxFrame h)
 
-pub call-accepted : (c : Call) (rest : List ℕ) (r : Reader) → r .count ≤ maxFrame → fedBy c rest r ≡ handedBack (called c (heldBytes r) rest)
+pub call-accepted : (c : Call) (rest : List ℕ) (r : Reader) → r .count ≤ maxFrame
+    → fedBy c rest r ≡ handedBack (called c (heldBytes r) rest)
 unfolding called
 call-accepted (feeding n) rest r h = fed-accepted r (take n rest) h
 call-accepted quiet rest r h = quieted-accepted r h
@@ -58,9 +61,12 @@ unfolding quietCall withFrame
 quiet-found [] d w = absurd (false≢true w)
 quiet-found (b ∷ h) d w = go (isWhole (frontOf (b ∷ h))) refl (quiet-found h (d + 1)) w
   where
-    go : (x : Bool) → isWhole (frontOf (b ∷ h)) ≡ x → (quietCall h (d + 1) .found ≡ true → length (quietCall h (d + 1) .held) + frameSize 0 ≤ length h)
-        → cond x (withFrame 0 (b ∷ h) d) (quietCall h (d + 1)) .found ≡ true → length (cond x (withFrame 0 (b ∷ h) d) (quietCall h (d + 1)) .held) + frameSize 0 ≤ length (b ∷ h)
-    go true e ih w = let k = whole-passed (b ∷ h) (is-whole (frontOf (b ∷ h)) e) .there in omega (arith, length-drop (frameSize (lengthAt (b ∷ h))) (b ∷ h))
+    go : (x : Bool) → isWhole (frontOf (b ∷ h)) ≡ x
+        → (quietCall h (d + 1) .found ≡ true → length (quietCall h (d + 1) .held) + frameSize 0 ≤ length h)
+        → cond x (withFrame 0 (b ∷ h) d) (quietCall h (d + 1)) .found ≡ true
+        → length (cond x (withFrame 0 (b ∷ h) d) (quietCall h (d + 1)) .held) + frameSize 0 ≤ length (b ∷ h)
+    go true e ih w = let k = whole-passed (b ∷ h) (is-whole (frontOf (b ∷ h)) e) .there in
+        omega (arith, length-drop (frameSize (lengthAt (b ∷ h))) (b ∷ h))
     go false e ih w = omega (arith, ih w)
 
 -- what holds of the result at its end
@@ -85,7 +91,8 @@ quiet-keeps [] d =
     }
 quiet-keeps (b ∷ h) d = go (isWhole (frontOf (b ∷ h))) refl (quiet-keeps h (d + 1))
   where
-    go : (x : Bool) → isWhole (frontOf (b ∷ h)) ≡ x → QuietKeeps h (quietCall h (d + 1)) → QuietKeeps (b ∷ h) (cond x (withFrame 0 (b ∷ h) d) (quietCall h (d + 1)))
+    go : (x : Bool) → isWhole (frontOf (b ∷ h)) ≡ x → QuietKeeps h (quietCall h (d + 1))
+        → QuietKeeps (b ∷ h) (cond x (withFrame 0 (b ∷ h) d) (quietCall h (d + 1)))
     go true e k =
         record {
           taken = refl;
@@ -110,9 +117,11 @@ unfolding quietCall withFrame
 quiet-reading [] d = refl
 quiet-reading (b ∷ h) d = go (isWhole (frontOf (b ∷ h))) refl (quiet-reading h (d + 1))
   where
-    go : (x : Bool) → isWhole (frontOf (b ∷ h)) ≡ x → droppedBefore (d + 1) (reading h) ≡ calledThen (quietCall h (d + 1)) (reading (quietCall h (d + 1) .held))
+    go : (x : Bool) → isWhole (frontOf (b ∷ h)) ≡ x → droppedBefore (d + 1) (reading h) ≡ calledThen (quietCall h (d + 1))
+        (reading (quietCall h (d + 1) .held))
         → droppedBefore d (reading (b ∷ h))
-        ≡ calledThen (cond x (withFrame 0 (b ∷ h) d) (quietCall h (d + 1))) (reading (cond x (withFrame 0 (b ∷ h) d) (quietCall h (d + 1)) .held))
+        ≡ calledThen (cond x (withFrame 0 (b ∷ h) d) (quietCall h (d + 1)))
+        (reading (cond x (withFrame 0 (b ∷ h) d) (quietCall h (d + 1)) .held))
     go true e ih = ap (droppedBefore d) (reading-whole (b ∷ h) (is-whole (frontOf (b ∷ h)) e))
     go false e ih =
         let n : d + (reading h .dropped + 1) ≡ d + 1 + reading h .dropped = omega arith in
@@ -139,7 +148,8 @@ feeding-law n h rest =
     ∙ ap (λ (s : List ℕ). droppedBefore 0 (reading (h ++ s))) (sym (take-append-drop n rest))
     ∙ steps-reading p (drop n rest)
     ∙ ap (λ (i : ℕ). calledThen c (reading (c .held ++ (drop i new ++ drop n rest)))) all
-    ∙ ap (λ (s : List ℕ). calledThen c (reading (c .held ++ s))) (sym (drop-append-le (c .taken) new (drop n rest) within) ∙ ap (drop (c .taken)) (take-append-drop n rest))
+    ∙ ap (λ (s : List ℕ). calledThen c (reading (c .held ++ s)))
+    (sym (drop-append-le (c .taken) new (drop n rest) within) ∙ ap (drop (c .taken)) (take-append-drop n rest))
 
 -- quiet, once every byte is taken
 pub quiet-law : (h : List ℕ) → reading h ≡ calledThen (called quiet h []) (reading (called quiet h [] .held))
@@ -147,13 +157,16 @@ unfolding called
 quiet-law h = dropped-none (reading h) ∙ quiet-reading h 0
 
 pub call-law :
-    (c : Call) (h rest : List ℕ) → due c rest → reading (h ++ rest) ≡ calledThen (called c h rest) (reading (called c h rest .held ++ drop (called c h rest .taken) rest))
+    (c : Call) (h rest : List ℕ) → due c rest → reading (h ++ rest) ≡ calledThen (called c h rest)
+    (reading (called c h rest .held ++ drop (called c h rest .taken) rest))
 unfolding called
 call-law (feeding n) h rest _ = feeding-law n h rest
 call-law quiet h rest none =
     let c = quietCall h 0 in
-    let left : c .held ≡ c .held ++ drop (c .taken) rest = sym (ap (λ (s : List ℕ). c .held ++ s) (ap (drop (c .taken)) none ∙ drop-nil (c .taken)) ∙ append-nil (c .held)) in
-    ap (λ (s : List ℕ). reading (h ++ s)) none ∙ ap reading (append-nil h) ∙ quiet-law h ∙ ap (λ (s : List ℕ). calledThen c (reading s)) left
+    let left : c .held ≡ c .held ++ drop (c .taken) rest = sym
+    (ap (λ (s : List ℕ). c .held ++ s) (ap (drop (c .taken)) none ∙ drop-nil (c .taken)) ∙ append-nil (c .held)) in
+    ap (λ (s : List ℕ). reading (h ++ s)) none ∙ ap reading (append-nil h) ∙ quiet-law h
+    ∙ ap (λ (s : List ℕ). calledThen c (reading s)) left
 
 -- ---- what every call keeps
 

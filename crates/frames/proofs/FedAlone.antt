@@ -51,10 +51,12 @@ module _ (f : Frame) (small : length (f .payload) ≤ maxData) where
       ∙ ap (feedingCall q (p ++ (x ∷ [])) 0) next
       ∙ feeding-encoded q (p ++ (x ∷ [])) (append-assoc p (x ∷ []) q ∙ e)
 
-  with-encoded : withFrame (length (encode f)) (encode f) 0 ≡ record { held = []; taken = length (encode f); dropped = 0; found = true; frame = f }
+  with-encoded : withFrame (length (encode f)) (encode f) 0
+      ≡ record { held = []; taken = length (encode f); dropped = 0; found = true; frame = f }
   unfolding withFrame
   with-encoded =
-      let behind : drop (frameSize (lengthAt (encode f))) (encode f) ≡ [] = ap (λ (s : List ℕ). drop (frameSize (lengthAt s)) s) (sym (append-nil (encode f))) ∙ behind-encoded f [] in
+      let behind : drop (frameSize (lengthAt (encode f))) (encode f) ≡ [] =
+      ap (λ (s : List ℕ). drop (frameSize (lengthAt s)) s) (sym (append-nil (encode f))) ∙ behind-encoded f [] in
       let same : frameAt (encode f) ≡ f = ap frameAt (sym (append-nil (encode f))) ∙ frame-encoded f [] in
       ap₂ (λ (h : List ℕ) (g : Frame). record { held = h; taken = length (encode f); dropped = 0; found = true; frame = g }) behind same
 
@@ -64,5 +66,6 @@ module _ (f : Frame) (small : length (f .payload) ≤ maxData) where
       ∙ ap (λ (h : List ℕ). handedBack (feedingCall (encode f) h 0 0)) (ap (λ (n : ℕ). take n (r .held)) none)
       ∙ ap handedBack (feeding-encoded (encode f) [] refl ∙ with-encoded)
 
-pub fed-written : (f : Frame) (room : List ℕ) → writable f room ≡ true → (r : Reader) → r .count ≡ 0 → fed r (take (writtenSize f room) (writtenRoom f room)) ≡ fedAlone f
+pub fed-written : (f : Frame) (room : List ℕ) → writable f room ≡ true → (r : Reader) → r .count ≡ 0
+    → fed r (take (writtenSize f room) (writtenRoom f room)) ≡ fedAlone f
 fed-written f room ok r none = ap (fed r) (front-written f room ok) ∙ fed-alone f (writable-small f room ok) r none

@@ -37,7 +37,8 @@ module _ (f : Frame) where
 
   pub frame-of-finished : frameOf (finished f) ≡ f
   unfolding finished
-  frame-of-finished = ap (λ (p : List ℕ). record { version = f .version; command = f .command; payload = p }) (take-padded maxData (f .payload))
+  frame-of-finished =
+      ap (λ (p : List ℕ). record { version = f .version; command = f .command; payload = p }) (take-padded maxData (f .payload))
 
 -- ---- made from its parts
 
@@ -52,4 +53,5 @@ unfolding extended finished
 extended-finished f t fits =
     let p = f .payload in
     let ok = le-leb (length p + length t) maxData fits in
-    rw ok (ap₂ (λ (k : ℕ) (b : List ℕ). record { version = f .version; command = f .command; length = k; bytes = b }) (sym (length-append p t)) (padded-more maxData p t fits))
+    rw ok (ap₂ (λ (k : ℕ) (b : List ℕ). record { version = f .version; command = f .command; length = k; bytes = b })
+    (sym (length-append p t)) (padded-more maxData p t fits))

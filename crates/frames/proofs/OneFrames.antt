@@ -46,7 +46,8 @@ one-frame s bytes e =
     let size = payload-size s w in
     let passed = whole-passed s w in
     let end : frameSize (lengthAt s) ≡ length s =
-    ap frameSize (sym size) ∙ ap (λ (b : Bool). frameSize (length (cond b (frameAt s .payload) []))) (sym (parts .0)) ∙ eqb-true _ _ (parts .1) in
+    ap frameSize (sym size) ∙ ap (λ (b : Bool). frameSize (length (cond b (frameAt s .payload) []))) (sym (parts .0))
+    ∙ eqb-true _ _ (parts .1) in
     let past : length s ≤ frameSize (lengthAt s) = omega arith in
     let none : drop (frameSize (lengthAt s)) s ≡ [] = drop-of-length-le s past in
     record {

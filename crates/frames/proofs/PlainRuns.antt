@@ -12,7 +12,10 @@ module _ {S R : Type 0} (step : S → Frame → S) (answer : S → Frame → Lis
 
   pub plain-frame :
       (f : Frame) (fs : List Frame)
-      → plain step answer s (f ∷ fs) ≡ record { state = plain step answer (step s f) fs .state; replies = answer s f ++ plain step answer (step s f) fs .replies }
+      → plain step answer s (f ∷ fs) ≡ record {
+        state = plain step answer (step s f) fs .state;
+        replies = answer s f ++ plain step answer (step s f) fs .replies;
+      }
   unfolding plain
   plain-frame f fs = refl
 

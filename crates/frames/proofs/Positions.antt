@@ -36,7 +36,8 @@ module _ (v : List ℕ) (n from to : ℕ) where
   pub dead-some : from ≤ to → frontOf (slice from to v) ≡ Dead → from < to
   dead-some h e =
       ⊎-elim
-      (λ k. absurd {A = from < to} (dead-open (sym e ∙ ap (λ (i : ℕ). frontOf (slice i to v)) k ∙ ap frontOf (slice-empty to v) ∙ front-empty)))
+      (λ k. absurd {A = from < to}
+      (dead-open (sym e ∙ ap (λ (i : ℕ). frontOf (slice i to v)) k ∙ ap frontOf (slice-empty to v) ∙ front-empty)))
       (λ k. k)
       (eq-or-lt-of-le h)
 
@@ -51,7 +52,8 @@ module _ (v : List ℕ) (n from to : ℕ) where
       ∙ feeding-dead (drop to v) (getD v from 0) (slice (suc from) to v) from (to - n) (sym (ap frontOf s) ∙ e)
       ∙ ap (λ (i : ℕ). feedingCall (drop to v) (slice i to v) (from + 1) (to - n)) (sym (add-one from))
 
-  pub feeding-open-at : from ≤ to → to < length v → n ≤ to → frontOf (slice from to v) ≡ Open → feedingAt v n from to ≡ feedingAt v n from (to + 1)
+  pub feeding-open-at : from ≤ to → to < length v → n ≤ to → frontOf (slice from to v) ≡ Open
+      → feedingAt v n from to ≡ feedingAt v n from (to + 1)
   feeding-open-at h k j e =
       let taken : to - n + 1 ≡ to + 1 - n = omega arith in
       ap (λ (l : List ℕ). feedingCall l (slice from to v) from (to - n)) (drop-cons v to 0 k)
@@ -62,14 +64,16 @@ module _ (v : List ℕ) (n from to : ℕ) where
   pub feeding-whole-at : frontOf (slice from to v) ≡ Whole → feedingAt v n from to ≡ withFrame (to - n) (slice from to v) from
   feeding-whole-at e = feeding-whole (drop to v) (slice from to v) from (to - n) e
 
-  pub feeding-ends-at : to ≡ length v → frontOf (slice from to v) ≡ Open → feedingAt v n from to ≡ withoutFrame (to - n) (slice from to v) from
+  pub feeding-ends-at : to ≡ length v → frontOf (slice from to v) ≡ Open
+      → feedingAt v n from to ≡ withoutFrame (to - n) (slice from to v) from
   feeding-ends-at k e =
       ap (λ (l : List ℕ). feedingCall l (slice from to v) from (to - n)) (ap (λ (i : ℕ). drop i v) k ∙ drop-length v)
       ∙ feeding-ends (slice from to v) from (to - n) e
 
 -- k bytes at once, where the front stays open up to the last of them
 pub feeding-waits-at :
-    (v : List ℕ) (n from to k : ℕ) → from ≤ to → to + k ≤ length v → n ≤ to → ((t : ℕ) → to ≤ t → t < to + k → frontOf (slice from t v) ≡ Open)
+    (v : List ℕ) (n from to k : ℕ) → from ≤ to → to + k ≤ length v → n ≤ to
+    → ((t : ℕ) → to ≤ t → t < to + k → frontOf (slice from t v) ≡ Open)
     → feedingAt v n from to ≡ feedingAt v n from (to + k)
 feeding-waits-at v n from to zero h j l stays = let e : to ≡ to + 0 = omega arith in ap (feedingAt v n from) e
 feeding-waits-at v n from to (suc k) h j l stays =
@@ -80,7 +84,8 @@ feeding-waits-at v n from to (suc k) h j l stays =
 
 -- they have room
 pub waits-room :
-    (v : List ℕ) (n from to k : ℕ) → from ≤ to → 0 < k → to + k ≤ length v → ((t : ℕ) → to ≤ t → t < to + k → frontOf (slice from t v) ≡ Open)
+    (v : List ℕ) (n from to k : ℕ) → from ≤ to → 0 < k → to + k ≤ length v
+    → ((t : ℕ) → to ≤ t → t < to + k → frontOf (slice from t v) ≡ Open)
     → to + k ≤ from + maxFrame
 waits-room v n from to k h some j stays =
     let last = to + k - 1 in
@@ -92,7 +97,8 @@ pub to-end : (a : List ℕ) (from to : ℕ) → to ≡ length a → slice from t
 to-end a from to e = ap (λ (n : ℕ). slice from n (a ++ [])) e ∙ ap (drop from) (take-append-seam a [])
 
 pub quiet-drops-at :
-    (a : List ℕ) (from : ℕ) → from < length a → isWhole (frontOf (drop from a)) ≡ false → quietCall (drop from a) from ≡ quietCall (drop (from + 1) a) (from + 1)
+    (a : List ℕ) (from : ℕ) → from < length a → isWhole (frontOf (drop from a)) ≡ false
+    → quietCall (drop from a) from ≡ quietCall (drop (from + 1) a) (from + 1)
 quiet-drops-at a from k e =
     let s = drop-cons a from 0 k in
     ap (λ (l : List ℕ). quietCall l from) s
@@ -100,7 +106,8 @@ quiet-drops-at a from k e =
     ∙ ap (λ (i : ℕ). quietCall (drop i a) (from + 1)) (sym (add-one from))
 
 -- a result of the call by what is held, and by where the scan stands
-pub quiet-end-at : (a : List ℕ) (from : ℕ) (end : ℕ → List ℕ → ℕ → CallResult) → end 0 (drop from a) from ≡ end (length a - length a) (slice from (length a) (a ++ [])) from
+pub quiet-end-at : (a : List ℕ) (from : ℕ) (end : ℕ → List ℕ → ℕ → CallResult)
+    → end 0 (drop from a) from ≡ end (length a - length a) (slice from (length a) (a ++ [])) from
 quiet-end-at a from end =
     let none : _≡_ {A = ℕ} 0 (length a - length a) = omega arith in
     ap₂ (λ (t : ℕ) (h : List ℕ). end t h from) none (sym (to-end a from (length a) refl))

@@ -32,7 +32,8 @@ unfolding readingFrom reading
 reading-whole [] e = absurd (whole-open (sym e ∙ front-empty))
 reading-whole (b ∷ s) e =
     let n : suc (headerSize + lengthAt (b ∷ s)) ≡ frameSize (lengthAt (b ∷ s)) = omega arith in
-    rw (ap isWhole e) (ap (passing (frameAt (b ∷ s))) (reading-inside (headerSize + lengthAt (b ∷ s)) s ∙ ap (λ (k : ℕ). reading (drop k (b ∷ s))) n))
+    rw (ap isWhole e) (ap (passing (frameAt (b ∷ s)))
+    (reading-inside (headerSize + lengthAt (b ∷ s)) s ∙ ap (λ (k : ℕ). reading (drop k (b ∷ s))) n))
 
 pub reading-stray : (b : ℕ) (s : List ℕ) → isWhole (frontOf (b ∷ s)) ≡ false → reading (b ∷ s) ≡ dropping (reading s)
 unfolding readingFrom reading
@@ -60,7 +61,8 @@ series-within zero (b ∷ s) h p = absurd (omega arith)
 series-within (suc k) [] h p = subst (IsSeries []) (sym reading-none) none
 series-within (suc k) (b ∷ s) h p = go (isWhole (frontOf (b ∷ s))) refl (λ t g q. series-within k t g q)
   where
-    go : (w : Bool) → isWhole (frontOf (b ∷ s)) ≡ w → ((t : List ℕ) → length t ≤ k → Bytes t → IsSeries t (reading t)) → IsSeries (b ∷ s) (reading (b ∷ s))
+    go : (w : Bool) → isWhole (frontOf (b ∷ s)) ≡ w → ((t : List ℕ) → length t ≤ k → Bytes t → IsSeries t (reading t))
+        → IsSeries (b ∷ s) (reading (b ∷ s))
     go true e ih =
         let S = b ∷ s in
         let whole = is-whole (frontOf S) e in

@@ -40,7 +40,8 @@ module _ {S R : Type 0} (step : S → Frame → S) (answer : S → Frame → Lis
 
   -- and of a series
   pub remains-series : (s : S) {b : List ℕ} {fs : List Frame} {n : ℕ} → Series b fs n → Bytes b → Remains s fs n [] 0 s [] b
-  remains-series s {b} series p = subst (λ (x : Reading). Remains s (x .frames) (x .dropped) [] 0 s [] b) (series-read series) (remains-start s b p)
+  remains-series s {b} series p =
+      subst (λ (x : Reading). Remains s (x .frames) (x .dropped) [] 0 s [] b) (series-read series) (remains-start s b p)
 
   -- c found and dropped what stands before r'
   remains-by :
@@ -63,11 +64,14 @@ module _ {S R : Type 0} (step : S → Frame → S) (answer : S → Frame → Lis
 
   -- a feeding call, or a quiet one once every byte is taken
   pub remains-called :
-      (k : Call) {s₀ : S} {fs : List Frame} {n : ℕ} {soFar : List R} {d : ℕ} {s : S} (h r : List ℕ) → due k r → Remains s₀ fs n soFar d s h r
-      → Remains s₀ fs n (soFar ++ repliesOf (called k h r) s) (d + called k h r .dropped) (stateAfter (called k h r) s) (called k h r .held) (drop (called k h r .taken) r)
+      (k : Call) {s₀ : S} {fs : List Frame} {n : ℕ} {soFar : List R} {d : ℕ} {s : S} (h r : List ℕ) → due k r
+      → Remains s₀ fs n soFar d s h r
+      → Remains s₀ fs n (soFar ++ repliesOf (called k h r) s) (d + called k h r .dropped) (stateAfter (called k h r) s)
+      (called k h r .held) (drop (called k h r .taken) r)
   remains-called k h r u m =
       let c = called k h r in
-      remains-by c (drop (c .taken) r) (call-law k h r u) (call-keeps k h r .bytes (m .held) (m .coming)) (bytes-drop (c .taken) r (m .coming)) m
+      remains-by c (drop (c .taken) r) (call-law k h r u) (call-keeps k h r .bytes (m .held) (m .coming))
+      (bytes-drop (c .taken) r (m .coming)) m
 
   -- the replies so far are the first of the plain run's
   pub remains-first :
@@ -83,5 +87,8 @@ module _ {S R : Type 0} (step : S → Frame → S) (answer : S → Frame → Lis
       let over : plain step answer s (reading [] .frames) ≡ record { state = s; replies = [] } =
       ap (λ (x : Reading). plain step answer s (x .frames)) reading-none ∙ plain-none step answer s in (
         m .state ∙ ap (λ (x : Plain S R). x .state) over,
-        (m .replies ∙ ap (λ (x : Plain S R). soFar ++ x .replies) over ∙ append-nil soFar, omega (arith, m .strays, ap (λ (x : Reading). x .dropped) reading-none)),
+        (
+          m .replies ∙ ap (λ (x : Plain S R). soFar ++ x .replies) over ∙ append-nil soFar,
+          omega (arith, m .strays, ap (λ (x : Reading). x .dropped) reading-none),
+        ),
       )

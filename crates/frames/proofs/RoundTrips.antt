@@ -23,7 +23,9 @@ module _ (f : Frame) (room : List ℕ) (ok : writable f room ≡ true) where
 
   pub writable-small : length (f .payload) ≤ maxData
   unfolding writable
-  writable-small = leb-true (length (f .payload)) maxData (and-eq-true-iff (leb (length (f .payload)) maxData) (leb (frameSize (length (f .payload))) (length room)) .0 ok .0)
+  writable-small =
+      leb-true (length (f .payload)) maxData
+      (and-eq-true-iff (leb (length (f .payload)) maxData) (leb (frameSize (length (f .payload))) (length room)) .0 ok .0)
 
   pub size-written : writtenSize f room ≡ frameSize (length (f .payload))
   unfolding writtenSize
@@ -35,7 +37,9 @@ module _ (f : Frame) (room : List ℕ) (ok : writable f room ≡ true) where
 
   -- the bytes of the frame are the first of the room
   pub front-written : take (writtenSize f room) (writtenRoom f room) ≡ encode f
-  front-written = ap₂ (λ (n : ℕ) (s : List ℕ). take n s) size-written room-written ∙ take-at (encode f) behind (frameSize (length (f .payload))) (encode-size f)
+  front-written =
+      ap₂ (λ (n : ℕ) (s : List ℕ). take n s) size-written room-written
+      ∙ take-at (encode f) behind (frameSize (length (f .payload))) (encode-size f)
 
   pub whole-written : wholeAt (writtenRoom f room) ≡ true
   unfolding wholeAt

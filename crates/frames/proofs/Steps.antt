@@ -25,7 +25,8 @@ pub data Steps : List ℕ → List ℕ → ℕ → ℕ → CallResult → Type 0
   finds : {h new : List ℕ} {d t : ℕ} → frontOf h ≡ Whole → Steps h new d t (withFrame t h d)
   needs : {h : List ℕ} {d t : ℕ} → frontOf h ≡ Open → Steps h [] d t (withoutFrame t h d)
   loses : {b : ℕ} {h new : List ℕ} {d t : ℕ} {c : CallResult} → frontOf (b ∷ h) ≡ Dead → Steps h new (d + 1) t c → Steps (b ∷ h) new d t c
-  takes : {x : ℕ} {h new : List ℕ} {d t : ℕ} {c : CallResult} → frontOf h ≡ Open → Steps (h ++ (x ∷ [])) new d (t + 1) c → Steps h (x ∷ new) d t c
+  takes : {x : ℕ} {h new : List ℕ} {d t : ℕ} {c : CallResult} → frontOf h ≡ Open → Steps (h ++ (x ∷ [])) new d (t + 1) c
+      → Steps h (x ∷ new) d t c
 
 -- every feeding call has one: by the bytes offered, and then by the bytes held
 module _ (new : List ℕ) (t : ℕ) (opens : (h : List ℕ) (d : ℕ) → frontOf h ≡ Open → Steps h new d t (feedingCall new h d t)) where
@@ -33,7 +34,8 @@ module _ (new : List ℕ) (t : ℕ) (opens : (h : List ℕ) (d : ℕ) → frontO
   steps-held [] d = opens [] d front-empty
   steps-held (b ∷ h) d = go (frontOf (b ∷ h)) refl (steps-held h (d + 1))
     where
-      go : (f : Front) → frontOf (b ∷ h) ≡ f → Steps h new (d + 1) t (feedingCall new h (d + 1) t) → Steps (b ∷ h) new d t (feedingCall new (b ∷ h) d t)
+      go : (f : Front) → frontOf (b ∷ h) ≡ f → Steps h new (d + 1) t (feedingCall new h (d + 1) t)
+          → Steps (b ∷ h) new d t (feedingCall new (b ∷ h) d t)
       go Whole e ih = subst (Steps (b ∷ h) new d t) (sym (feeding-whole new (b ∷ h) d t e)) (finds e)
       go Dead e ih = subst (Steps (b ∷ h) new d t) (sym (feeding-dead new b h d t e)) (loses e ih)
       go Open e ih = opens (b ∷ h) d e
@@ -41,7 +43,8 @@ module _ (new : List ℕ) (t : ℕ) (opens : (h : List ℕ) (d : ℕ) → frontO
 pub steps : (new h : List ℕ) (d t : ℕ) → Steps h new d t (feedingCall new h d t)
 steps [] h d t = steps-held [] t (λ h d e. subst (Steps h [] d t) (sym (feeding-ends h d t e)) (needs e)) h d
 steps (x ∷ new) h d t =
-    steps-held (x ∷ new) t (λ h d e. subst (Steps h (x ∷ new) d t) (sym (feeding-open x new h d t e)) (takes e (steps new (h ++ (x ∷ [])) d (t + 1)))) h d
+    steps-held (x ∷ new) t
+    (λ h d e. subst (Steps h (x ∷ new) d t) (sym (feeding-open x new h d t e)) (takes e (steps new (h ++ (x ∷ [])) d (t + 1)))) h d
 
 -- ---- what is taken
 
@@ -62,7 +65,8 @@ steps-within (takes e p) = omega (arith, steps-within p)
 -- ---- a step forward
 
 -- a frame uses bytes up
-pub steps-found : {h new : List ℕ} {d t : ℕ} {c : CallResult} → Steps h new d t c → c .found ≡ true → length (c .held) + frameSize 0 + t ≤ length h + c .taken
+pub steps-found : {h new : List ℕ} {d t : ℕ} {c : CallResult} → Steps h new d t c → c .found ≡ true
+    → length (c .held) + frameSize 0 + t ≤ length h + c .taken
 unfolding withFrame
 steps-found (finds {h = h} e) w = let k = whole-passed h e .there in omega (arith, length-drop (frameSize (lengthAt h)) h)
 steps-found (needs e) w = absurd (false≢true w)
@@ -106,7 +110,8 @@ steps-short (needs e) = omega arith
 steps-short (loses e p) = steps-short p
 steps-short (takes e p) = steps-short p
 
-pub steps-bytes : {h new : List ℕ} {d t : ℕ} {c : CallResult} → Steps h new d t c → Bytes h → Bytes new → Bytes (c .held) × FrameBytes (c .frame)
+pub steps-bytes : {h new : List ℕ} {d t : ℕ} {c : CallResult} → Steps h new d t c → Bytes h → Bytes new
+    → Bytes (c .held) × FrameBytes (c .frame)
 unfolding withFrame
 steps-bytes (finds {h = h} e) p q = (bytes-drop (frameSize (lengthAt h)) h p, whole-bytes h p)
 steps-bytes (needs e) p q = (p, record { version = omega arith; command = omega arith; payload = tt })

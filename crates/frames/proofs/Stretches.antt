@@ -46,7 +46,12 @@ headless-join v from to m r h k =
 pub headless-farther : (v : List ℕ) (from to end r : ℕ) → to ≤ end → Headless v from to r → Headless v from end r
 headless-farther v from to end r l h =
     let k = h .within in
-    record { ordered = h .ordered; within = omega arith; none = λ i p q e. let s = h .none i p q e in let two = s .0 in (omega arith, s .1) }
+    record {
+      ordered = h .ordered;
+      within = omega arith;
+      none = λ i p q e. let s = h .none i p q e in let two =
+          s .0 in (omega arith, s .1);
+    }
 
 -- ---- of two lists read as one
 
@@ -61,7 +66,8 @@ module _ (a b : List ℕ) (from r : ℕ) where
           let k = s .0 in
           (omega arith, λ f. s .1 (sym (List·getD-append a b 0 (i + 1) k) ∙ f))
 
-  pub headless-second : length a ≤ from → Headless b (from - length a) (length b) r → Headless (a ++ b) from (length a + length b) (length a + r)
+  pub headless-second : length a ≤ from → Headless b (from - length a) (length b) r
+      → Headless (a ++ b) from (length a + length b) (length a + r)
   headless-second k h = let o = h .ordered in let l = h .within in record { ordered = omega arith; within = omega arith; none = none }
     where
       none : (i : ℕ) → from ≤ i → i < length a + r → Stray (a ++ b) (length a + length b) i
@@ -122,7 +128,8 @@ module _ (v : List ℕ) (n : ℕ) where
       less : to ≤ i → feedingAt v n i to ≡ feedingAt v n i (reach v to i)
       less k =
           let e : i ≡ to = omega arith in
-          let undecided : frontOf (slice i to v) ≡ Open = ap (λ (j : ℕ). frontOf (slice j to v)) e ∙ ap frontOf (slice-empty to v) ∙ front-empty in
+          let undecided : frontOf (slice i to v) ≡ Open = ap (λ (j : ℕ). frontOf (slice j to v)) e ∙ ap frontOf (slice-empty to v)
+          ∙ front-empty in
           ⊎-elim
           (λ more. feeding-open-at v n i to h more m undecided ∙ ap (feedingAt v n i) (let f : to + 1 ≡ reach v to i = omega arith in f))
           (λ end. ap (feedingAt v n i) (let f : to ≡ reach v to i = omega arith in f))
@@ -130,10 +137,12 @@ module _ (v : List ℕ) (n : ℕ) where
 
   -- a stray place is dropped, however many of its bytes are held
   module _ (end i to : ℕ) (h : i < to) (l : to ≤ length v) (m : n ≤ to) (w : end ≤ length v) (s : Stray v end i) where
-    loses : (t : ℕ) → to ≤ t → t ≤ reach v to (i + 1) → frontOf (slice i t v) ≡ Dead → feedingAt v n i t ≡ feedingAt v n (i + 1) (reach v to (i + 1))
+    loses : (t : ℕ) → to ≤ t → t ≤ reach v to (i + 1) → frontOf (slice i t v) ≡ Dead
+        → feedingAt v n i t ≡ feedingAt v n (i + 1) (reach v to (i + 1))
     loses t p q e =
         let f : reach v t (i + 1) ≡ reach v to (i + 1) = omega arith in
-        feeding-dead-at v n i t (omega arith) (omega arith) e ∙ reached (i + 1) t (omega arith) (omega arith) (omega arith) ∙ ap (feedingAt v n (i + 1)) f
+        feeding-dead-at v n i t (omega arith) (omega arith) e ∙ reached (i + 1) t (omega arith) (omega arith) (omega arith)
+        ∙ ap (feedingAt v n (i + 1)) f
 
     -- with its second byte taken first, where it is not yet there
     loses-second : getD v i 0 ≡ head1 → feedingAt v n i to ≡ feedingAt v n (i + 1) (reach v to (i + 1))
@@ -148,14 +157,16 @@ module _ (v : List ℕ) (n : ℕ) where
         takes : to < i + 2 → feedingAt v n i to ≡ feedingAt v n (i + 1) (reach v to (i + 1))
         takes k =
             feeding-open-at v n i to (omega arith) (omega (arith, two)) m (first-open v i to h l e k)
-            ∙ loses (to + 1) (omega arith) (omega (arith, two)) (second-dead v i (to + 1) (omega arith) (omega (arith, two)) e (omega arith) (s e .1))
+            ∙ loses (to + 1) (omega arith) (omega (arith, two))
+            (second-dead v i (to + 1) (omega arith) (omega (arith, two)) e (omega arith) (s e .1))
 
     stray-at : feedingAt v n i to ≡ feedingAt v n (i + 1) (reach v to (i + 1))
     stray-at = ⊎-elim loses-second (λ o. loses to (omega arith) (omega arith) (first-dead v i to h l o)) (head-or-other (getD v i 0))
 
   -- k of them
   strays-at :
-      (end from to k : ℕ) → from ≤ to → to ≤ length v → n ≤ to → end ≤ length v → from + k ≤ end → ((i : ℕ) → from ≤ i → i < from + k → Stray v end i)
+      (end from to k : ℕ) → from ≤ to → to ≤ length v → n ≤ to → end ≤ length v → from + k ≤ end
+      → ((i : ℕ) → from ≤ i → i < from + k → Stray v end i)
       → feedingAt v n from to ≡ feedingAt v n (from + k) (reach v to (from + k))
   strays-at end from to zero h l m w u s =
       let e : from ≡ from + 0 = omega arith in
@@ -210,4 +221,5 @@ pub quiet-headless-at : (a : List ℕ) (from r : ℕ) → Headless a from (lengt
 quiet-headless-at a from r s =
     let o = s .ordered in
     let e : from + (r - from) ≡ r = omega arith in
-    quiet-strays-at a from (r - from) (omega (arith, s .within)) (λ i p q. s .none i p (omega arith)) ∙ ap (λ (i : ℕ). quietCall (drop i a) i) e
+    quiet-strays-at a from (r - from) (omega (arith, s .within)) (λ i p q. s .none i p (omega arith))
+    ∙ ap (λ (i : ℕ). quietCall (drop i a) i) e

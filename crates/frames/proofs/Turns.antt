@@ -35,12 +35,14 @@ unfolding feedingCall
 feeding-whole [] h d t e = looking-whole t (withoutFrame t) h d e
 feeding-whole (x ∷ new) h d t e = looking-whole t (taking x new t) h d e
 
-pub feeding-dead : (new : List ℕ) (b : ℕ) (h : List ℕ) (d t : ℕ) → frontOf (b ∷ h) ≡ Dead → feedingCall new (b ∷ h) d t ≡ feedingCall new h (d + 1) t
+pub feeding-dead : (new : List ℕ) (b : ℕ) (h : List ℕ) (d t : ℕ) → frontOf (b ∷ h) ≡ Dead
+    → feedingCall new (b ∷ h) d t ≡ feedingCall new h (d + 1) t
 unfolding feedingCall
 feeding-dead [] b h d t e = looking-dead t (withoutFrame t) b h d e
 feeding-dead (x ∷ new) b h d t e = looking-dead t (taking x new t) b h d e
 
-pub feeding-open : (x : ℕ) (new h : List ℕ) (d t : ℕ) → frontOf h ≡ Open → feedingCall (x ∷ new) h d t ≡ feedingCall new (h ++ (x ∷ [])) d (t + 1)
+pub feeding-open : (x : ℕ) (new h : List ℕ) (d t : ℕ) → frontOf h ≡ Open
+    → feedingCall (x ∷ new) h d t ≡ feedingCall new (h ++ (x ∷ [])) d (t + 1)
 unfolding feedingCall
 feeding-open x new h d t e = looking-open t (taking x new t) h d e
 

@@ -49,14 +49,24 @@ pub record LiveExamples : Type 0 where
   -- and its stray bytes alone: with them the call needs a new byte and none is left
   pub p10-cut :
       fed (holding []) (0x55 ∷ 0xAA ∷ 0x00 ∷ 0xFE ∷ 0x00 ∷ 0x01 ∷ [])
-      ≡ record { next = holding (0x55 ∷ 0xAA ∷ 0x00 ∷ 0xFE ∷ 0x00 ∷ 0x01 ∷ []); taken = 6; dropped = 0; found = false; frame = finished noFrame }
+      ≡ record {
+        next = holding (0x55 ∷ 0xAA ∷ 0x00 ∷ 0xFE ∷ 0x00 ∷ 0x01 ∷ []);
+        taken = 6;
+        dropped = 0;
+        found = false;
+        frame = finished noFrame;
+      }
   -- a frame that is held is taken, and no new byte
-  pub held-first : fed (holding (endRequestBytes ++ endRequestBytes)) (0x55 ∷ []) ≡ record { next = holding endRequestBytes; taken = 0; dropped = 0; found = true; frame = finished endRequest }
+  pub held-first : fed (holding (endRequestBytes ++ endRequestBytes))
+      (0x55 ∷ []) ≡ record { next = holding endRequestBytes; taken = 0; dropped = 0; found = true; frame = finished endRequest }
   -- a high length byte of 03 is the end of a front at once
-  pub too-high-fed : fed (holding []) (0x55 ∷ 0xAA ∷ 0x00 ∷ 0x00 ∷ 0x03 ∷ []) ≡ record { next = holding []; taken = 5; dropped = 5; found = false; frame = finished noFrame }
+  pub too-high-fed : fed (holding []) (0x55 ∷ 0xAA ∷ 0x00 ∷ 0x00 ∷ 0x03 ∷ [])
+      ≡ record { next = holding []; taken = 5; dropped = 5; found = false; frame = finished noFrame }
   -- an unfinished front is no frame to a quiet call, which reads on behind its first byte
-  pub unfinished : quieted (holding (0x55 ∷ 0xAA ∷ endRequestBytes)) ≡ record { next = holding []; taken = 0; dropped = 2; found = true; frame = finished endRequest }
-  pub nothing-left : quieted (holding (0x55 ∷ 0xAA ∷ 0x00 ∷ [])) ≡ record { next = holding []; taken = 0; dropped = 3; found = false; frame = finished noFrame }
+  pub unfinished : quieted (holding (0x55 ∷ 0xAA ∷ endRequestBytes))
+      ≡ record { next = holding []; taken = 0; dropped = 2; found = true; frame = finished endRequest }
+  pub nothing-left : quieted (holding (0x55 ∷ 0xAA ∷ 0x00 ∷ []))
+      ≡ record { next = holding []; taken = 0; dropped = 3; found = false; frame = finished noFrame }
 
 pub live-examples : LiveExamples
 unfolding frameAt frontOf withFrame looking feedingCall quietCall fed quieted finished

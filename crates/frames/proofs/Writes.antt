@@ -14,17 +14,21 @@ use Rattle.frames.specs.Buffer.{writable}
 
 -- ---- whether it is written
 
-pub writable-fits : (f : Frame) (room : List ℕ) → length (f .payload) ≤ maxData → frameSize (length (f .payload)) ≤ length room → writable f room ≡ true
+pub writable-fits : (f : Frame) (room : List ℕ) → length (f .payload) ≤ maxData → frameSize (length (f .payload)) ≤ length room
+    → writable f room ≡ true
 unfolding writable
-writable-fits f room small fits = rw (le-leb (length (f .payload)) maxData small) (le-leb (frameSize (length (f .payload))) (length room) fits)
+writable-fits f room small fits =
+    rw (le-leb (length (f .payload)) maxData small) (le-leb (frameSize (length (f .payload))) (length room) fits)
 
 pub unwritable-long : (f : Frame) (room : List ℕ) → maxData < length (f .payload) → writable f room ≡ false
 unfolding writable
 unwritable-long f room long = rw (lt-leb (length (f .payload)) maxData long)
 
-pub unwritable-narrow : (f : Frame) (room : List ℕ) → length (f .payload) ≤ maxData → length room < frameSize (length (f .payload)) → writable f room ≡ false
+pub unwritable-narrow : (f : Frame) (room : List ℕ) → length (f .payload) ≤ maxData → length room < frameSize (length (f .payload))
+    → writable f room ≡ false
 unfolding writable
-unwritable-narrow f room small narrow = rw (le-leb (length (f .payload)) maxData small) (lt-leb (frameSize (length (f .payload))) (length room) narrow)
+unwritable-narrow f room small narrow =
+    rw (le-leb (length (f .payload)) maxData small) (lt-leb (frameSize (length (f .payload))) (length room) narrow)
 
 -- ---- the three steps
 
@@ -54,7 +58,14 @@ module _ (f : Frame) (room : List ℕ) (fits : frameSize (length (f .payload)) �
     unsummed-take = ap (take (headerSize + n)) e ∙ take-at (unsummed f) (drop (headerSize + n) room) (headerSize + n) (unsummed-size f)
 
     pub same-size : length x ≡ length room
-    same-size = omega (arith, ap length e, length-append (unsummed f) (drop (headerSize + n) room), unsummed-size f, length-drop (headerSize + n) room)
+    same-size =
+        omega (
+          arith,
+          ap length e,
+          length-append (unsummed f) (drop (headerSize + n) room),
+          unsummed-size f,
+          length-drop (headerSize + n) room,
+        )
 
     pub finished : (t : ℕ) → t ≡ sumByte (take (headerSize + n) x) → set x (headerSize + n) t ≡ encode f ++ drop (frameSize n) room
     unfolding encode

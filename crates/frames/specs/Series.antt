@@ -15,7 +15,8 @@ use Rattle.frames.specs.Reading.{Reading, reading}
 pub data Series : List ℕ → List Frame → ℕ → Type 0 where
   none : Series [] [] 0
   stray : {b : ℕ} {s : List ℕ} {fs : List Frame} {n : ℕ} → isWhole (frontOf (b ∷ s)) ≡ false → Series s fs n → Series (b ∷ s) fs (n + 1)
-  frame : {f : Frame} {s : List ℕ} {fs : List Frame} {n : ℕ} → length (f .payload) ≤ maxData → Series s fs n → Series (encode f ++ s) (f ∷ fs) n
+  frame : {f : Frame} {s : List ℕ} {fs : List Frame} {n : ℕ} → length (f .payload) ≤ maxData → Series s fs n
+      → Series (encode f ++ s) (f ∷ fs) n
 
 -- The claim: a series is read as exactly its frames, with exactly its stray bytes dropped, and every byte sequence is the series of
 -- its own reading.

@@ -64,7 +64,8 @@ impl FinishedFrame {
 
 // Writes the frame whose data are the first n bytes.
 fn write_first(version: u8, command: u8, all: [u8; MAX_DATA], n: usize, room: &mut [u8]) -> usize
-    ensures { λ r. ⌜ Written (record { version = version; command = command; payload = take n all }) (now (room .entry)) r (now (room .exit)) ⌝ }
+    ensures { λ r. ⌜ Written (record { version = version; command = command; payload = take n all }) (now (room .entry)) r
+        (now (room .exit)) ⌝ }
 {
     if MAX_DATA < n {
         return writer::write(version, command, &all, room);

@@ -7,6 +7,7 @@
 // What each of them means stands in specs/, in the words of document 01; nothing here looks at commands.
 pub mod buffer;
 pub mod finished;
+mod live;
 pub mod reader;
 mod result;
 mod scan;

@@ -32,7 +32,8 @@ getD-padded s k i =
     (λ h. List·getD-append s (zeros k) 0 i h)
     (λ h.
     let e : i ≡ length s + (i - length s) = omega arith in
-    ap (λ (j : ℕ). getD (s ++ zeros k) j 0) e ∙ getD-append-add s (zeros k) (i - length s) 0 ∙ getD-zeros k (i - length s) ∙ sym (List·getD-eq-default s 0 {n = i} h))
+    ap (λ (j : ℕ). getD (s ++ zeros k) j 0) e ∙ getD-append-add s (zeros k) (i - length s) 0 ∙ getD-zeros k (i - length s)
+    ∙ sym (List·getD-eq-default s 0 {n = i} h))
     (lt-or-le i (length s))
 
 pub record Completion (s : List ℕ) : Type 0 where
@@ -41,7 +42,8 @@ pub record Completion (s : List ℕ) : Type 0 where
   pub whole : frontOf (s ++ tail) ≡ Whole
 
 -- a front that passes every test for which it has the bytes, and lacks the sum
-summed : (s : List ℕ) → getD s 0 0 ≡ head1 → getD s 1 0 ≡ head2 → getD s 4 0 ≤ 2 → lengthAt s ≤ maxData → length s ≤ headerSize + lengthAt s → Completion s
+summed : (s : List ℕ) → getD s 0 0 ≡ head1 → getD s 1 0 ≡ head2 → getD s 4 0 ≤ 2 → lengthAt s ≤ maxData
+    → length s ≤ headerSize + lengthAt s → Completion s
 summed s e f g l h =
     let n = headerSize + lengthAt s in
     let k = n - length s in
@@ -67,14 +69,20 @@ summed s e f g l h =
 
 -- what completes s and more bytes completes s
 before : (s t : List ℕ) → Bytes t → Completion (s ++ t) → Completion s
-before s t p c = record { tail = t ++ c .tail; bytes = bytes-append t (c .tail) p (c .bytes); whole = sym (ap frontOf (append-assoc s t (c .tail))) ∙ c .whole }
+before s t p c =
+    record {
+      tail = t ++ c .tail;
+      bytes = bytes-append t (c .tail) p (c .bytes);
+      whole = sym (ap frontOf (append-assoc s t (c .tail))) ∙ c .whole;
+    }
 
 -- a front of both head bytes: the bytes that are not there yet count as zeros
 past-head1 : (s : List ℕ) → 2 ≤ length s → getD s 0 0 ≡ head1 → fromHead2 s ≡ Open → Completion s
 past-head1 s h e o =
     ⊎-elim (λ k. absurd {A = Completion s} (omega arith))
     (λ t2. let f = eqb-true (getD s 1 0) head2 (t2 .0) in
-    ⊎-elim (λ k. let z4 = List·getD-eq-default s 0 {n = 4} (omega arith) in let z5 = List·getD-eq-default s 0 {n = 5} (omega arith) in summed s e f (omega arith) (omega arith) (omega arith))
+    ⊎-elim (λ k. let z4 = List·getD-eq-default s 0 {n = 4} (omega arith) in let z5 = List·getD-eq-default s 0 {n = 5} (omega arith) in
+    summed s e f (omega arith) (omega arith) (omega arith))
     (λ t5. let g = leb-true (getD s 4 0) 2 (t5 .0) in
     ⊎-elim (λ k. let z5 = List·getD-eq-default s 0 {n = 5} (omega arith) in summed s e f g (omega arith) (omega arith))
     (λ t6. let l = leb-true (lengthAt s) maxData (t6 .0) in

@@ -19,7 +19,12 @@ use Rattle.fronts.proofs.Completions.{open-completion}
 pub whole-frame : (s : List ℕ) → Bytes s → frontOf s ≡ Whole → WholeFrame s
 whole-frame s p e =
     let k = whole-passed s e .small in
-    record { frame = frameAt s; small = omega (arith, payload-size s e); behind = drop (frameSize (lengthAt s)) s; joined = encoded-whole s p e }
+    record {
+      frame = frameAt s;
+      small = omega (arith, payload-size s e);
+      behind = drop (frameSize (lengthAt s)) s;
+      joined = encoded-whole s p e;
+    }
 
 pub frame-whole : (s : List ℕ) → WholeFrame s → frontOf s ≡ Whole
 frame-whole s w = sym (ap frontOf (w .joined)) ∙ front-encoded (w .frame) (w .behind) (w .small)
@@ -39,7 +44,10 @@ never-dead s p never = go (frontOf s) refl
     go Open e = let c = open-completion s e in absurd (never (completable s (c .tail) p (c .bytes) (c .whole)))
 
 open-means : (s : List ℕ) → Bytes s → frontOf s ≡ Open → (WholeFrame s → ⊥) × Completable s
-open-means s p e = let c = open-completion s e in (λ w. whole-open (sym (frame-whole s w) ∙ e), completable s (c .tail) p (c .bytes) (c .whole))
+open-means s p e = let c = open-completion s e in (
+  λ w. whole-open (sym (frame-whole s w) ∙ e),
+  completable s (c .tail) p (c .bytes) (c .whole),
+)
 
 means-open : (s : List ℕ) → Bytes s → (WholeFrame s → ⊥) × Completable s → frontOf s ≡ Open
 means-open s p m = go (frontOf s) refl
@@ -50,4 +58,5 @@ means-open s p m = go (frontOf s) refl
     go Dead e = absurd (dead-never s e (m .1))
 
 pub front-means : (s : List ℕ) → Bytes s → FrontMeans s
-front-means s p = record { whole = (whole-frame s p, frame-whole s); dead = (dead-never s, never-dead s p); undecided = (open-means s p, means-open s p) }
+front-means s p =
+    record { whole = (whole-frame s p, frame-whole s); dead = (dead-never s, never-dead s p); undecided = (open-means s p, means-open s p) }

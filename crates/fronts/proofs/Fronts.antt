@@ -35,7 +35,8 @@ pub dead-whole : Dead ≡ Whole → ⊥
 dead-whole e = let z : _≡_ {A = ℕ} 0 1 = cc in omega arith
 
 -- a test that leaves the front whole was passed
-pub test-whole : (need have : ℕ) (passes : Bool) (next : Front) → test need have passes next ≡ Whole → (need ≤ have) × ((passes ≡ true) × (next ≡ Whole))
+pub test-whole : (need have : ℕ) (passes : Bool) (next : Front) → test need have passes next ≡ Whole
+    → (need ≤ have) × ((passes ≡ true) × (next ≡ Whole))
 test-whole need have passes next e = go (leb need have) passes refl refl
   where
     go : (x y : Bool) → leb need have ≡ x → passes ≡ y → (need ≤ have) × ((passes ≡ true) × (next ≡ Whole))
@@ -44,7 +45,8 @@ test-whole need have passes next e = go (leb need have) passes refl refl
     go false y p q = absurd (whole-open (sym e ∙ test-open need have passes next (leb-false need have p)))
 
 -- a test that leaves the front open lacks bytes, or was passed and a later one does
-pub test-is-open : (need have : ℕ) (passes : Bool) (next : Front) → test need have passes next ≡ Open → (have < need) ⊎ ((passes ≡ true) × (next ≡ Open))
+pub test-is-open : (need have : ℕ) (passes : Bool) (next : Front) → test need have passes next ≡ Open
+    → (have < need) ⊎ ((passes ≡ true) × (next ≡ Open))
 test-is-open need have passes next e = go (leb need have) passes refl refl
   where
     go : (x y : Bool) → leb need have ≡ x → passes ≡ y → (have < need) ⊎ ((passes ≡ true) × (next ≡ Open))
@@ -53,7 +55,8 @@ test-is-open need have passes next e = go (leb need have) passes refl refl
     go true false p q = absurd (dead-open (sym (test-fails need have passes next (leb-true need have p) q) ∙ e))
 
 -- so one whose bytes are there was passed
-pub test-open-passed : (need have : ℕ) (passes : Bool) (next : Front) → need ≤ have → test need have passes next ≡ Open → (passes ≡ true) × (next ≡ Open)
+pub test-open-passed : (need have : ℕ) (passes : Bool) (next : Front) → need ≤ have → test need have passes next ≡ Open
+    → (passes ≡ true) × (next ≡ Open)
 test-open-passed need have passes next h e =
     ⊎-elim (λ k. absurd {A = (passes ≡ true) × (next ≡ Open)} (omega arith)) (λ t. t) (test-is-open need have passes next e)
 
@@ -93,10 +96,12 @@ module _ (s : List ℕ) where
     open-head2 h k = past-head1 h e ∙ test-open 2 (length s) (eqb (getD s 1 0) head2) (fromHigh s) k
 
     pub dead-head2 : 2 ≤ length s → (getD s 1 0 ≡ head2 → ⊥) → frontOf s ≡ Dead
-    dead-head2 h n = past-head1 (omega arith) e ∙ test-fails 2 (length s) (eqb (getD s 1 0) head2) (fromHigh s) h (ne-eqb (getD s 1 0) head2 n)
+    dead-head2 h n =
+        past-head1 (omega arith) e ∙ test-fails 2 (length s) (eqb (getD s 1 0) head2) (fromHigh s) h (ne-eqb (getD s 1 0) head2 n)
 
     past-head2 : 2 ≤ length s → getD s 1 0 ≡ head2 → frontOf s ≡ fromHigh s
-    past-head2 h f = past-head1 (omega arith) e ∙ test-passes 2 (length s) (eqb (getD s 1 0) head2) (fromHigh s) h (eq-eqb (getD s 1 0) head2 f)
+    past-head2 h f =
+        past-head1 (omega arith) e ∙ test-passes 2 (length s) (eqb (getD s 1 0) head2) (fromHigh s) h (eq-eqb (getD s 1 0) head2 f)
 
     module _ (f : getD s 1 0 ≡ head2) where
       pub open-high : 2 ≤ length s → length s < 5 → frontOf s ≡ Open
@@ -113,19 +118,23 @@ module _ (s : List ℕ) where
         open-length h k = past-high h g ∙ test-open 6 (length s) (leb (lengthAt s) maxData) (fromSum s) k
 
         pub dead-length : 6 ≤ length s → maxData < lengthAt s → frontOf s ≡ Dead
-        dead-length h n = past-high (omega arith) g ∙ test-fails 6 (length s) (leb (lengthAt s) maxData) (fromSum s) h (lt-leb (lengthAt s) maxData n)
+        dead-length h n =
+            past-high (omega arith) g ∙ test-fails 6 (length s) (leb (lengthAt s) maxData) (fromSum s) h (lt-leb (lengthAt s) maxData n)
 
         module _ (h : 6 ≤ length s) (l : lengthAt s ≤ maxData) where
           past-length : frontOf s ≡ fromSum s
-          past-length = past-high (omega arith) g ∙ test-passes 6 (length s) (leb (lengthAt s) maxData) (fromSum s) h (le-leb (lengthAt s) maxData l)
+          past-length =
+              past-high (omega arith) g ∙ test-passes 6 (length s) (leb (lengthAt s) maxData) (fromSum s) h (le-leb (lengthAt s) maxData l)
 
           pub open-sum : length s < frameSize (lengthAt s) → frontOf s ≡ Open
           open-sum k = past-length ∙ test-open (frameSize (lengthAt s)) (length s) (sumRight s) Whole k
 
-          pub dead-sum : frameSize (lengthAt s) ≤ length s → (getD s (headerSize + lengthAt s) 0 ≡ sumByte (take (headerSize + lengthAt s) s) → ⊥) → frontOf s ≡ Dead
+          pub dead-sum : frameSize (lengthAt s) ≤ length s →
+              (getD s (headerSize + lengthAt s) 0 ≡ sumByte (take (headerSize + lengthAt s) s) → ⊥) → frontOf s ≡ Dead
           dead-sum k n = past-length ∙ test-fails (frameSize (lengthAt s)) (length s) (sumRight s) Whole k (ne-eqb _ _ n)
 
-          pub whole-sum : frameSize (lengthAt s) ≤ length s → getD s (headerSize + lengthAt s) 0 ≡ sumByte (take (headerSize + lengthAt s) s) → frontOf s ≡ Whole
+          pub whole-sum : frameSize (lengthAt s) ≤ length s
+              → getD s (headerSize + lengthAt s) 0 ≡ sumByte (take (headerSize + lengthAt s) s) → frontOf s ≡ Whole
           whole-sum k n = past-length ∙ test-passes (frameSize (lengthAt s)) (length s) (sumRight s) Whole k (eq-eqb _ _ n)
 
 -- ---- what the answers say

@@ -15,11 +15,13 @@ use Rattle.fronts.specs.Frame.{head1, head2, maxData, headerSize, frameS
 use Rattle.sequences.specs.Numbers.{number16}
 use Rattle.fronts.specs.Fronts.{test, frontOf}
 use Rattle.sequences.proofs.Orders.{lt-or-le}
-use Rattle.fronts.proofs.Fronts.{test-open, test-fails, test-passes, dead-open, whole-open, sumRight, fromSum, fromLength, fromHigh, fromHead2, Passed, whole-passed}
+use Rattle.fronts.proofs.Fronts.{test-open, test-fails, test-passes, dead-open, whole-open, sumRight, fromSum, fromLength}
+use Rattle.fronts.proofs.Fronts.{fromHigh, fromHead2, Passed, whole-passed}
 
 -- one test: more bytes keep its answer, if they keep its outcome and the answer after it
 test-more :
-    (need have have′ : ℕ) (ok ok′ : Bool) (next next′ : Front) → have ≤ have′ → (need ≤ have → ok′ ≡ ok) → (need ≤ have → (next ≡ Open → ⊥) → next′ ≡ next)
+    (need have have′ : ℕ) (ok ok′ : Bool) (next next′ : Front) → have ≤ have′ → (need ≤ have → ok′ ≡ ok)
+    → (need ≤ have → (next ≡ Open → ⊥) → next′ ≡ next)
     → (test need have ok next ≡ Open → ⊥) → test need have′ ok′ next′ ≡ test need have ok next
 test-more need have have′ ok ok′ next next′ l p q n =
     ⊎-elim
@@ -50,28 +52,33 @@ module _ (h r : List ℕ) where
   fromSum-more : headerSize ≤ length h → (fromSum h ≡ Open → ⊥) → fromSum (h ++ r) ≡ fromSum h
   fromSum-more k n =
       ap (λ (j : ℕ). test (frameSize j) (length (h ++ r)) (sumRight (h ++ r)) Whole) (length-more k)
-      ∙ test-more (frameSize (lengthAt h)) (length h) (length (h ++ r)) (sumRight h) (sumRight (h ++ r)) Whole Whole size-more (sumRight-more k) (λ l _. refl) n
+      ∙ test-more (frameSize (lengthAt h)) (length h) (length (h ++ r)) (sumRight h) (sumRight (h ++ r)) Whole Whole size-more
+      (sumRight-more k) (λ l _. refl) n
 
   fromLength-more : 5 ≤ length h → (fromLength h ≡ Open → ⊥) → fromLength (h ++ r) ≡ fromLength h
   fromLength-more k n =
-      test-more 6 (length h) (length (h ++ r)) (leb (lengthAt h) maxData) (leb (lengthAt (h ++ r)) maxData) (fromSum h) (fromSum (h ++ r)) size-more
+      test-more 6 (length h) (length (h ++ r)) (leb (lengthAt h) maxData) (leb (lengthAt (h ++ r)) maxData) (fromSum h)
+      (fromSum (h ++ r)) size-more
       (λ l. ap (λ (x : ℕ). leb x maxData) (length-more l)) fromSum-more n
 
   fromHigh-more : (fromHigh h ≡ Open → ⊥) → fromHigh (h ++ r) ≡ fromHigh h
   fromHigh-more n =
-      test-more 5 (length h) (length (h ++ r)) (leb (getD h 4 0) 2) (leb (getD (h ++ r) 4 0) 2) (fromLength h) (fromLength (h ++ r)) size-more
+      test-more 5 (length h) (length (h ++ r)) (leb (getD h 4 0) 2) (leb (getD (h ++ r) 4 0) 2) (fromLength h)
+      (fromLength (h ++ r)) size-more
       (λ l. ap (λ (x : ℕ). leb x 2) (List·getD-append h r 0 4 l)) fromLength-more n
 
   fromHead2-more : (fromHead2 h ≡ Open → ⊥) → fromHead2 (h ++ r) ≡ fromHead2 h
   fromHead2-more n =
-      test-more 2 (length h) (length (h ++ r)) (eqb (getD h 1 0) head2) (eqb (getD (h ++ r) 1 0) head2) (fromHigh h) (fromHigh (h ++ r)) size-more
+      test-more 2 (length h) (length (h ++ r)) (eqb (getD h 1 0) head2) (eqb (getD (h ++ r) 1 0) head2) (fromHigh h)
+      (fromHigh (h ++ r)) size-more
       (λ l. ap (λ (x : ℕ). eqb x head2) (List·getD-append h r 0 1 l)) (λ _. fromHigh-more) n
 
   -- the law
   pub front-more : (frontOf h ≡ Open → ⊥) → frontOf (h ++ r) ≡ frontOf h
   unfolding frontOf
   front-more n =
-      test-more 1 (length h) (length (h ++ r)) (eqb (getD h 0 0) head1) (eqb (getD (h ++ r) 0 0) head1) (fromHead2 h) (fromHead2 (h ++ r)) size-more
+      test-more 1 (length h) (length (h ++ r)) (eqb (getD h 0 0) head1) (eqb (getD (h ++ r) 0 0) head1) (fromHead2 h)
+      (fromHead2 (h ++ r)) size-more
       (λ l. ap (λ (x : ℕ). eqb x head1) (List·getD-append h r 0 0 l)) (λ _. fromHead2-more) n
 
   pub whole-more : frontOf h ≡ Whole → frontOf (h ++ r) ≡ Whole

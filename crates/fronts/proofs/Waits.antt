@@ -10,7 +10,8 @@ use Rattle.fronts.specs.Frame.{head1, head2, maxData, headerSize, frameS
 use Rattle.sequences.specs.Numbers.{number16}
 use Rattle.fronts.specs.Fronts.{frontOf, Missing}
 use Rattle.sequences.proofs.Slices.{getD-slice}
-use Rattle.fronts.proofs.Fronts.{open-none, open-head2, open-high, open-length, open-sum, open-first, open-second, open-high-small, open-length-small, open-unsummed}
+use Rattle.fronts.proofs.Fronts.{open-none, open-head2, open-high, open-length, open-sum, open-first, open-second}
+use Rattle.fronts.proofs.Fronts.{open-high-small, open-length-small, open-unsummed}
 
 -- the part of v from `from` on, open at `to`, seen at t
 module _ (v : List ℕ) (from to t : ℕ) (h : from ≤ to) (k : to ≤ t) (j : t ≤ length v) (e : frontOf (slice from to v) ≡ Open) where

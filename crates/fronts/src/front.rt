@@ -83,7 +83,8 @@ fn front_within(a: &[u8], b: &[u8], from: usize, to: usize) -> Front
 
 // How many bytes the next test of an open front is short of. No test comes before they are there: whoever feeds may take them at once.
 pub fn missing(a: &[u8], b: &[u8], from: usize, to: usize) -> usize
-    ensures { λ r. ⌜ (from ≤ to → to ≤ length (now (a .entry)) + length (now (b .entry)) → frontOf (slice from to (now (a .entry) ++ now (b .entry))) ≡ Open → Missing (now (a .entry) ++ now (b .entry)) from to r) ⌝ }
+    ensures { λ r. ⌜ (from ≤ to → to ≤ length (now (a .entry)) + length (now (b .entry))
+        → frontOf (slice from to (now (a .entry) ++ now (b .entry))) ≡ Open → Missing (now (a .entry) ++ now (b .entry)) from to r) ⌝ }
 {
     let n = past(to, from);
     if n < 1 {

@@ -31,7 +31,8 @@ module _ (announced crc : ℕ) (area : List ℕ) where
   started-says = refl
 
   -- reading on does not change what it will say
-  says-on : (c : Check) (n : ℕ) → announced ≤ length area → c .read + n ≤ announced → willPass (readOn c n area) announced crc area ≡ willPass c announced crc area
+  says-on : (c : Check) (n : ℕ) → announced ≤ length area → c .read + n ≤ announced
+      → willPass (readOn c n area) announced crc area ≡ willPass c announced crc area
   says-on c n fits h =
       ap (λ (r : ℕ). eqb (finish crc32 r) crc)
       (sym (update-append crc32 (c .register) (slice (c .read) (c .read + n) area) (slice (c .read + n) announced area))
@@ -48,7 +49,11 @@ module _ (announced crc : ℕ) (area : List ℕ) where
 
   -- all of them: it says what it would say
   pub ends : (c : Check) (most : ℕ) → c .read < announced → leftUnread c announced ≤ most
-      → portionOf c most announced crc area ≡ record { count = leftUnread c announced; verdict = saying (willPass c announced crc area); check = readOn c (leftUnread c announced) area }
+      → portionOf c most announced crc area ≡ record {
+        count = leftUnread c announced;
+        verdict = saying (willPass c announced crc area);
+        check = readOn c (leftUnread c announced) area;
+      }
   unfolding portionOf
   ends c most inside h =
       let all : c .read + leftUnread c announced ≡ announced = omega arith in
@@ -60,5 +65,8 @@ module _ (announced crc : ℕ) (area : List ℕ) where
       record {
         starts = started-says;
         goes-on = goes-on;
-        ends = λ c most inside h. (ap (λ (p : Portion). p .count) (ends c most inside h), ap (λ (p : Portion). p .verdict) (ends c most inside h));
+        ends = λ c most inside h. (
+          ap (λ (p : Portion). p .count) (ends c most inside h),
+          ap (λ (p : Portion). p .verdict) (ends c most inside h),
+        );
       }

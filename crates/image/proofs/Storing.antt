@@ -42,7 +42,8 @@ module _ (p : Progress) (bytes area : List ℕ) where
       ∙ written-there area bytes (p .stored) h
 
   pub stores : Stores p bytes area
-  stores = record { counted = storing-fits; there = last-stored; before = written-before area bytes (p .stored) 0 (p .stored) (omega arith) }
+  stores =
+      record { counted = storing-fits; there = last-stored; before = written-before area bytes (p .stored) 0 (p .stored) (omega arith) }
 
   -- what holds of the bytes of the packet taken last
   pub record IsLast : Type 0 where

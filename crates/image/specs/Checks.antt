@@ -31,7 +31,8 @@ portionSize most left = cond (ltb most left) most left
 
 -- a check that has read n bytes more
 abbrev pub readOn : Check → ℕ → List ℕ → Check
-readOn c n area = record { running = c .running; read = c .read + n; register = update crc32 (c .register) (slice (c .read) (c .read + n) area) }
+readOn c n area =
+    record { running = c .running; read = c .read + n; register = update crc32 (c .register) (slice (c .read) (c .read + n) area) }
 
 -- what it says once it stands there
 abbrev pub verdictOf : Check → ℕ → ℕ → Verdict
@@ -63,4 +64,5 @@ pub record ChecksAlike (announced crc : ℕ) (area : List ℕ) : Type 0 where
       → (portionOf c most announced crc area ≡ record { count = most; verdict = Unfinished; check = readOn c most area })
       × (willPass (readOn c most area) announced crc area ≡ willPass c announced crc area)
   pub ends : (c : Check) (most : ℕ) → c .read < announced → leftUnread c announced ≤ most
-      → (portionOf c most announced crc area .count ≡ leftUnread c announced) × (portionOf c most announced crc area .verdict ≡ saying (willPass c announced crc area))
+      → (portionOf c most announced crc area .count ≡ leftUnread c announced) ×
+      (portionOf c most announced crc area .verdict ≡ saying (willPass c announced crc area))

@@ -27,7 +27,8 @@ impl Progress {
 
     // Writes the next bytes and counts them; where they do not fit into the area neither.
     pub fn store(self, bytes: &[u8], area: &mut [u8]) -> Progress
-        ensures { λ r. ⌜ (r ≡ storing self (now (bytes .entry)) (now (area .entry))) × (now (area .exit) ≡ writtenAt (now (area .entry)) (self .stored) (now (bytes .entry))) ⌝ }
+        ensures { λ r. ⌜ (r ≡ storing self (now (bytes .entry)) (now (area .entry))) ×
+            (now (area .exit) ≡ writtenAt (now (area .entry)) (self .stored) (now (bytes .entry))) ⌝ }
     {
         let n = bytes.len();
         let at = self.stored;

@@ -42,7 +42,8 @@ module _ (l : Link) (f : Frame) (memory : List ℕ) (fits : Fits l f memory) (mo
       let below = in-ring in
       ⊎-elim
       (λ before. written-before memory b (p * 526) (q * 526) 526 (omega arith))
-      (λ least. ⊎-elim (λ above. ap (take 526) (written-behind memory b (p * 526) (q * 526) (omega arith))) (λ same. absurd (other (omega arith))) (lt-or-le p q))
+      (λ least. ⊎-elim (λ above. ap (take 526) (written-behind memory b (p * 526) (q * 526) (omega arith)))
+      (λ same. absurd (other (omega arith))) (lt-or-le p q))
       (lt-or-le q p)
 
   behind : Behind l f memory
@@ -54,7 +55,8 @@ module _ (l : Link) (f : Frame) (memory : List ℕ) (fits : Fits l f memory) (mo
       let below = in-ring in
       let back = ap (λ (n : ℕ). take n (drop (p * 526) after)) (sym size) ∙ written-there memory (f .bytes) (p * 526) (omega arith) in
       record {
-        last = all-three (getD-set-same (l .«to_sender») p (f .«to_sender») false (omega arith)) back (getD-set-same (l .lengths) p (f .length) 0 (omega arith));
+        last = all-three (getD-set-same (l .«to_sender») p (f .«to_sender») false (omega arith)) back
+            (getD-set-same (l .lengths) p (f .length) 0 (omega arith));
         others = λ i h.
             let other : ringPlace l i ≡ p → ⊥ = apart (l .first) i (l .count) h most in
             all-three (getD-set-other (l .«to_sender») p (ringPlace l i) (f .«to_sender») false other)

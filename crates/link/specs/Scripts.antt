@@ -34,6 +34,7 @@ letterOf s letters = cond (ltb (s .at) (s .end)) (getD letters (s .at) 0) 0
 abbrev pub usedUp : Script → Script
 usedUp s = cond (ltb (s .at) (s .end)) (record { at = s .at + 1; end = s .end }) s
 
--- "Sending a frame uses up the script's next letter if that is p, l or r (an `s` is not used up here, it waits ..)"
+-- "Sending a frame uses up the script's next letter if that is p, l or r. An `s` is not used up here, it waits". A byte that is no letter
+-- is used up as a p is; no script has one.
 abbrev pub afterSending : Script → List ℕ → Script
 afterSending s letters = cond (eqb (letterOf s letters) silence) s (usedUp s)

@@ -4,7 +4,8 @@ use crate::frame::SIZE;
 use sequences::place;
 ghost use mathlib.Core.Path.{_≡_};
 ghost use Prim.Native.Nat.{_+_, _%_, _<_};
-ghost use Rattle.link.specs.Links.{places, placeStart, bytesAt, noFrames, frameUnderWay, withSent, withBytes, sentLink, sentMemory, passed};
+ghost use Rattle.link.specs.Links.{places, placeStart, bytesAt, noFrames, frameUnderWay, withSent, withBytes, sentLink};
+ghost use Rattle.link.specs.Links.{sentMemory, passed};
 
 // How many frames can be under way.
 pub const PLACES: usize = 64;

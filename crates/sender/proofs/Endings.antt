@@ -12,12 +12,11 @@ use Rattle.frames.specs.Buffer.{dataAt}
 use Rattle.sequences.proofs.Conditionals.{of-both, of-each}
 use Rattle.commands.specs.Limits.{maxPacket}
 use Rattle.commands.specs.States.{granted, deniedFA, badLengthFB, notReceivingFD, neverSentFE, refusedFE}
-use Rattle.commands.specs.Requests.{channelOf}
-use Rattle.commands.specs.declared.reply_fields.ReplyFA.{ReplyFA}
-use Rattle.commands.specs.declared.reply_fields.ReplyFB.{ReplyFB}
-use Rattle.commands.specs.declared.reply_fields.ReplyFC.{ReplyFC}
-use Rattle.commands.specs.declared.reply_fields.ReplyState.{ReplyState}
-use Rattle.commands.specs.ReplyFields.{isReply, fieldsFA, fieldsFB, fieldsFC, fieldsState}
+use Rattle.replies.specs.declared.reply_fields.ReplyFA.{ReplyFA}
+use Rattle.replies.specs.declared.reply_fields.ReplyFB.{ReplyFB}
+use Rattle.replies.specs.declared.reply_fields.ReplyFC.{ReplyFC}
+use Rattle.replies.specs.declared.reply_fields.ReplyState.{ReplyState}
+use Rattle.replies.specs.ReplyFields.{isReply, replyChannel, fieldsFA, fieldsFB, fieldsFC, fieldsState}
 use Rattle.sender.specs.declared.phase.Phase.{Phase}
 use Rattle.sender.specs.declared.phase.Phase.the-variants.{Asking, Telling, Placing, Sending, Ending, Done, GivenUp}
 use Rattle.sender.specs.declared.decision.Decision.{Decision}
@@ -138,7 +137,7 @@ module _ (s : Sender) where
   unfolding judgedFE ownReply fieldsState
   fe-earned b ending own =
       let r = fieldsState (dataAt b) in
-      let both = each (isReply (commandOf (s .position .phase)) b) (eqb (channelOf (dataAt b)) (s .offer .channel)) own in
+      let both = each (isReply (commandOf (s .position .phase)) b) (eqb (replyChannel (dataAt b)) (s .offer .channel)) own in
       of-each (Earned b) (ltb refusedFE (r .state) || eqb (r .state) neverSentFE) _ _
       (λ e. undone-earned b (nothingDecided s wrongReply) (refused-undone wrongReply))
       (λ right.

@@ -17,7 +17,7 @@ use Rattle.fronts.specs.Frame.{Frame}
 use Rattle.sequences.proofs.Orders.{lt-or-le}
 use Rattle.sequences.proofs.Conditionals.{of-each}
 use Rattle.sequences.proofs.Bytes.{bytes-take, bytes-at}
-use Rattle.commands.specs.RequestFrames.{dataFD, dataFE, requestFrame}
+use Rattle.requests.specs.RequestFrames.{dataFD, dataFE, requestFrame}
 use Rattle.sender.specs.declared.phase.Phase.the-variants.{Telling, Placing, Sending, Ending, Done}
 use Rattle.sender.specs.declared.decision.Decision.{Decision}
 use Rattle.sender.specs.declared.decision.Decision.the-variants as decision
@@ -29,7 +29,8 @@ use Rattle.sender.specs.Rules.{badOffer, breaksRules}
 use Rattle.sender.specs.Decisions.{goOn, done}
 use Rattle.sender.specs.Requests.{requestOf}
 use Rattle.sender.specs.Replies.{onward, afterReply}
-use Rattle.sender.specs.Granted.{grantingReply, Exchange, exchange, pieces, packets, piecesFrom, plan, goesOn, AllGranted, GrantedExchange}
+use Rattle.sender.specs.Granted.{grantingReply, Exchange, exchange, pieces, packets, piecesFrom, plan, goesOn, AllGranted}
+use Rattle.sender.specs.Granted.{GrantedExchange}
 use Rattle.sender.proofs.RulesKept.{lawful}
 use Rattle.sender.proofs.Packets.{packet-some}
 use Rattle.sender.proofs.Refusals.{is-accepted}

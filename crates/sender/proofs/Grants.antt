@@ -1,24 +1,22 @@
 -- What a granting reply comes to, request by request. Assumes nothing.
-use mathlib.Core.Path.{_≡_, refl, ap, ap₂, _∙_}
-use mathlib.Core.Bool.{Bool, true, false, cond, _&&_}
+use mathlib.Core.Path.{_≡_, refl, ap, _∙_}
+use mathlib.Core.Bool.{true, _&&_}
 use mathlib.Core.List.{List}
 use Prim.Native.Nat.{ℕ, _+_, _≤_, _<_}
 use borrow.Author.Tests.{eq-eqb, le-ltb}
-use lib.Dec.{eqb}
 use lib.ListN.{length, take}
 use Rattle.crc.specs.Crc.{checksum, crc32}
 use Rattle.frames.specs.Buffer.{dataAt}
 use Rattle.commands.specs.States.{granted}
-use Rattle.commands.specs.Requests.{channelOf}
-use Rattle.commands.specs.declared.reply_fields.ReplyFA.{ReplyFA}
-use Rattle.commands.specs.declared.reply_fields.ReplyFB.{ReplyFB}
-use Rattle.commands.specs.declared.reply_fields.ReplyFC.{ReplyFC}
-use Rattle.commands.specs.declared.reply_fields.ReplyState.{ReplyState}
-use Rattle.commands.specs.ReplyFields.{isReply, fieldsFA, fieldsFB, fieldsFC, fieldsState}
-use Rattle.commands.specs.Replies.{replyFA, replyFB, replyFC, replyState}
+use Rattle.replies.specs.declared.reply_fields.ReplyFA.{ReplyFA}
+use Rattle.replies.specs.declared.reply_fields.ReplyFB.{ReplyFB}
+use Rattle.replies.specs.declared.reply_fields.ReplyFC.{ReplyFC}
+use Rattle.replies.specs.declared.reply_fields.ReplyState.{ReplyState}
+use Rattle.replies.specs.ReplyFields.{isReply, replyChannel, fieldsFA, fieldsFB, fieldsFC, fieldsState}
+use Rattle.replies.specs.Replies.{replyFA, replyFB, replyFC, replyState}
 use Rattle.sequences.specs.Numbers.{max32}
-use Rattle.commands.specs.RoundTrips.{replyBytes}
-use Rattle.commands.proofs.RoundTrips.{replies-read-back}
+use Rattle.replies.specs.RoundTrips.{replyBytes}
+use Rattle.replies.proofs.RoundTrips.{replies-read-back}
 use Rattle.sender.specs.declared.phase.Phase.{Phase}
 use Rattle.sender.specs.declared.phase.Phase.the-variants.{Asking, Telling, Placing, Sending, Ending}
 use Rattle.sender.specs.declared.decision.Decided.{Decided}
@@ -47,10 +45,10 @@ module _ (s : Sender) (image : List ℕ) (ok : senderRefusal s (length image) �
       (nothingDecided s wrongReply)
 
   -- the reply to the request, on the channel, is judged
-  in-phase : (b : List ℕ) (p : Phase) → s .position .phase ≡ p → isReply (commandOf p) b ≡ true → channelOf (dataAt b) ≡ channel
+  in-phase : (b : List ℕ) (p : Phase) → s .position .phase ≡ p → isReply (commandOf p) b ≡ true → replyChannel (dataAt b) ≡ channel
       → afterReply s image b ≡ InPhase p (dataAt b)
   unfolding afterReply judgedIn ownReply
-  in-phase b p is own same = simp (ok, is, own, eq-eqb (channelOf (dataAt b)) channel same)
+  in-phase b p is own same = simp (ok, is, own, eq-eqb (replyChannel (dataAt b)) channel same)
 
   pub granted-fa : (soft : List ℕ) → s .position .phase ≡ Asking
       → afterReply s image (replyBytes 0xFA (replyFA channel granted soft)) ≡ goOn (movedTo s Telling 0 0)

@@ -13,11 +13,11 @@ use Rattle.frames.specs.Buffer.{dataAt}
 use Rattle.sequences.proofs.Conditionals.{of-both, of-each}
 use Rattle.commands.specs.Limits.{maxPacket}
 use Rattle.commands.specs.States.{granted, deniedFA, badLengthFB, notReceivingFD, neverSentFE, refusedFE}
-use Rattle.commands.specs.declared.reply_fields.ReplyFA.{ReplyFA}
-use Rattle.commands.specs.declared.reply_fields.ReplyFB.{ReplyFB}
-use Rattle.commands.specs.declared.reply_fields.ReplyFC.{ReplyFC}
-use Rattle.commands.specs.declared.reply_fields.ReplyState.{ReplyState}
-use Rattle.commands.specs.ReplyFields.{fieldsFA, fieldsFB, fieldsFC, fieldsState}
+use Rattle.replies.specs.declared.reply_fields.ReplyFA.{ReplyFA}
+use Rattle.replies.specs.declared.reply_fields.ReplyFB.{ReplyFB}
+use Rattle.replies.specs.declared.reply_fields.ReplyFC.{ReplyFC}
+use Rattle.replies.specs.declared.reply_fields.ReplyState.{ReplyState}
+use Rattle.replies.specs.ReplyFields.{fieldsFA, fieldsFB, fieldsFC, fieldsState}
 use Rattle.sender.specs.declared.phase.Phase.{Phase}
 use Rattle.sender.specs.declared.phase.Phase.the-variants.{Asking, Telling, Placing, Sending, Ending, Done, GivenUp}
 use Rattle.sender.specs.declared.decision.Decision.{Decision}

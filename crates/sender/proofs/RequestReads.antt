@@ -18,10 +18,10 @@ use Rattle.frames.proofs.RoundTrips.{size-written, room-written}
 use Rattle.frames.proofs.FedAlone.{fed-written}
 use Rattle.commands.specs.declared.table.Header.the-variants.{Right}
 use Rattle.commands.specs.Limits.{minPacket, maxPacket}
-use Rattle.commands.specs.RequestFrames.{dataFA, dataFB, dataFC, dataFD, dataFE, requestFrame}
+use Rattle.requests.specs.RequestFrames.{dataFA, dataFB, dataFC, dataFD, dataFE, requestFrame}
 use Rattle.sequences.specs.Numbers.{max16}
-use Rattle.commands.specs.RoundTrips.{FitsFB, FitsFD, sent, headerIn}
-use Rattle.commands.proofs.RoundTrips.{requests-read-back, request-payload, sent-command, size-fa, size-fb, size-fc, size-fd, size-fe}
+use Rattle.requests.specs.RoundTrips.{FitsFB, FitsFD, sent, headerIn}
+use Rattle.requests.proofs.RoundTrips.{requests-read-back, request-payload, sent-command, size-fa, size-fb, size-fc, size-fd, size-fe}
 use Rattle.sender.specs.declared.phase.Phase.{Phase}
 use Rattle.sender.specs.declared.phase.Phase.the-variants.{Asking, Telling, Placing, Sending, Ending, Done, GivenUp}
 use Rattle.sender.specs.declared.sender.Sender.{Sender}

@@ -9,10 +9,10 @@ use lib.ListN.{length, take, drop, replicate}
 use Rattle.crc.specs.Crc.{checksum, crc16-modbus, crc32}
 use Rattle.sequences.specs.Bytes.{Bytes}
 use Rattle.fronts.specs.Frame.{Frame}
-use Rattle.commands.specs.RequestFrames.{dataFA, dataFB, dataFC, dataFD, dataFE, requestFrame}
+use Rattle.requests.specs.RequestFrames.{dataFA, dataFB, dataFC, dataFD, dataFE, requestFrame}
 use Rattle.commands.specs.States.{granted}
-use Rattle.commands.specs.Replies.{replyFA, replyFB, replyFC, replyState}
-use Rattle.commands.specs.RoundTrips.{replyBytes}
+use Rattle.replies.specs.Replies.{replyFA, replyFB, replyFC, replyState}
+use Rattle.replies.specs.RoundTrips.{replyBytes}
 use Rattle.sender.specs.declared.phase.Phase.the-variants.{Done}
 use Rattle.sender.specs.declared.decision.Decision.{Decision}
 use Rattle.sender.specs.declared.decision.Decision.the-variants as decision

@@ -7,7 +7,7 @@ use Prim.Native.Nat.{ℕ, zero, suc, _<_}
 use lib.ListN.{length}
 use Rattle.frames.specs.Buffer.{dataAt}
 use Rattle.commands.specs.States.{granted}
-use Rattle.commands.specs.ReplyFields.{isReply, fieldsState}
+use Rattle.replies.specs.ReplyFields.{isReply, fieldsState}
 use Rattle.sequences.specs.Numbers.{max16}
 use Rattle.sender.specs.declared.phase.Phase.the-variants.{Sending, Ending, Done}
 use Rattle.sender.specs.declared.decision.Decision.the-variants as decision

@@ -8,12 +8,11 @@ use Rattle.crc.specs.Crc.{checksum, crc32}
 use Rattle.frames.specs.Buffer.{dataAt}
 use Rattle.commands.specs.Limits.{maxPacket, maxArea}
 use Rattle.commands.specs.States.{granted, deniedFA, badLengthFB, notReceivingFD, neverSentFE, refusedFE}
-use Rattle.commands.specs.Requests.{channelOf}
-use Rattle.commands.specs.declared.reply_fields.ReplyFA.{ReplyFA}
-use Rattle.commands.specs.declared.reply_fields.ReplyFB.{ReplyFB}
-use Rattle.commands.specs.declared.reply_fields.ReplyFC.{ReplyFC}
-use Rattle.commands.specs.declared.reply_fields.ReplyState.{ReplyState}
-use Rattle.commands.specs.ReplyFields.{isReply, fieldsFA, fieldsFB, fieldsFC, fieldsState}
+use Rattle.replies.specs.declared.reply_fields.ReplyFA.{ReplyFA}
+use Rattle.replies.specs.declared.reply_fields.ReplyFB.{ReplyFB}
+use Rattle.replies.specs.declared.reply_fields.ReplyFC.{ReplyFC}
+use Rattle.replies.specs.declared.reply_fields.ReplyState.{ReplyState}
+use Rattle.replies.specs.ReplyFields.{isReply, replyChannel, fieldsFA, fieldsFB, fieldsFC, fieldsState}
 use Rattle.sender.specs.declared.phase.Phase.the-variants.{Telling, Placing, Sending, Ending}
 use Rattle.sender.specs.declared.decision.Decided.{Decided}
 use Rattle.sender.specs.declared.sender.Sender.{Sender}
@@ -25,7 +24,7 @@ use Rattle.sender.specs.Requests.{senderRefusal}
 
 -- the reply to its own request: one whole frame of that command, version byte and L, on its channel
 unfoldable pub ownReply : Sender → List ℕ → Bool
-ownReply s b = isReply (commandOf (s .position .phase)) b && eqb (channelOf (dataAt b)) (s .offer .channel)
+ownReply s b = isReply (commandOf (s .position .phase)) b && eqb (replyChannel (dataAt b)) (s .offer .channel)
 
 -- a field that 01 never gives there
 abbrev pub unless : Sender → Bool → Decided → Decided

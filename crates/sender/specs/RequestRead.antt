@@ -12,9 +12,9 @@ use Rattle.fronts.specs.Frame.{maxFrame, encode}
 use Rattle.frames.specs.Finished.{finished}
 use Rattle.frames.specs.LiveReading.{fed, fedAlone}
 use Rattle.commands.specs.declared.table.Header.the-variants.{Right}
-use Rattle.commands.specs.Requests.{channelOf, requestFA, requestFB, requestFC, requestFD, packetOf}
+use Rattle.requests.specs.Requests.{channelOf, requestFA, requestFB, requestFC, requestFD, packetOf}
 use Rattle.sequences.specs.Numbers.{max16}
-use Rattle.commands.specs.RoundTrips.{headerIn}
+use Rattle.requests.specs.RoundTrips.{headerIn}
 use Rattle.sender.specs.declared.phase.Phase.{Phase}
 use Rattle.sender.specs.declared.phase.Phase.the-variants.{Asking, Telling, Placing, Sending, Ending, Done, GivenUp}
 use Rattle.sender.specs.declared.sender.Offer.{Offer}

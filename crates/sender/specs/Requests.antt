@@ -9,11 +9,11 @@ use Rattle.crc.specs.Crc.{checksum, crc16-modbus, crc32}
 use Rattle.fronts.specs.Frame.{maxFrame, Frame}
 use Rattle.frames.specs.LiveReading.{noFrame}
 use Rattle.frames.specs.Buffer.{writtenSize, writtenRoom}
-use Rattle.commands.specs.declared.request.RequestFA.{RequestFA}
-use Rattle.commands.specs.declared.request.RequestFB.{RequestFB}
-use Rattle.commands.specs.declared.request.RequestFC.{RequestFC}
-use Rattle.commands.specs.declared.request.RequestFD.{RequestFD}
-use Rattle.commands.specs.RequestFrames.{dataFA, dataFB, dataFC, dataFD, dataFE, requestFrame}
+use Rattle.requests.specs.declared.request.RequestFA.{RequestFA}
+use Rattle.requests.specs.declared.request.RequestFB.{RequestFB}
+use Rattle.requests.specs.declared.request.RequestFC.{RequestFC}
+use Rattle.requests.specs.declared.request.RequestFD.{RequestFD}
+use Rattle.requests.specs.RequestFrames.{dataFA, dataFB, dataFC, dataFD, dataFE, requestFrame}
 use Rattle.sender.specs.declared.sender.Sender.{Sender}
 use Rattle.sender.specs.declared.request.Requested.{Requested}
 use Rattle.commands.specs.Outcomes.{accepted, shortRoom, rulesBroken, wrongImage}

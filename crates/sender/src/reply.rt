@@ -6,19 +6,20 @@ use crate::phase::command_of;
 use crate::sender::Sender;
 use commands::limits::MAX_PACKET;
 use commands::outcome;
-use commands::reply_fields;
-use commands::reply_fields::ReplyFA;
-use commands::reply_fields::ReplyFB;
-use commands::reply_fields::ReplyFC;
-use commands::reply_fields::ReplyState;
 use commands::state;
 use frames::buffer;
+use replies::reply_fields;
+use replies::reply_fields::ReplyFA;
+use replies::reply_fields::ReplyFB;
+use replies::reply_fields::ReplyFC;
+use replies::reply_fields::ReplyState;
 ghost use mathlib.Core.Path.{_≡_};
 ghost use mathlib.Core.Bool.{false};
 ghost use Rattle.commands.specs.Outcomes.{wrongReply};
 ghost use Rattle.sender.specs.Rules.{breaksRules};
 ghost use Rattle.sender.specs.Decisions.{nothingDecided};
-ghost use Rattle.sender.specs.Replies.{AtPacket, ownReply, resumeAt, onward, judgedIn, afterReply, judgedFA, judgedFB, judgedFC, judgedFD, judgedFE};
+ghost use Rattle.sender.specs.Replies.{AtPacket, ownReply, resumeAt, onward, judgedIn, afterReply, judgedFA, judgedFB};
+ghost use Rattle.sender.specs.Replies.{judgedFC, judgedFD, judgedFE};
 
 impl Sender {
     // `reply` is to be one whole frame. `image` is read where FB's reply tells how much of it is stored.

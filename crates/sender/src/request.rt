@@ -3,17 +3,17 @@ use crate::phase::Phase;
 use crate::phase::is_final;
 use crate::sender::Sender;
 use commands::outcome;
-use commands::request::RequestFA;
-use commands::request::RequestFB;
-use commands::request::RequestFC;
-use commands::request::RequestFD;
-use commands::request_frame;
 use frames::finished::FinishedFrame;
 use fronts::MAX_FRAME;
+use requests::request::RequestFA;
+use requests::request::RequestFB;
+use requests::request::RequestFC;
+use requests::request::RequestFD;
+use requests::request_frame;
 use sequences::part::part;
 ghost use mathlib.Core.Path.{_≡_};
 ghost use Rattle.frames.specs.Finished.{finished};
-ghost use Rattle.commands.specs.RequestFrames.{dataFB, requestFrame};
+ghost use Rattle.requests.specs.RequestFrames.{dataFB, requestFrame};
 ghost use Rattle.sender.specs.Requests.{tellingOf, packetFrame, requestOf, senderRefusal, RequestGiven};
 
 // What the call gives: the request's length, 0 where there is none.

@@ -8,3 +8,4 @@ pub mod Padding
 pub mod Sames
 pub mod Searches
 pub mod Numbers
+pub mod Fields

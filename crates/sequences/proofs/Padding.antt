@@ -9,7 +9,6 @@ use lib.Seq.{take-append-seam, drop-append-add}
 use Rattle.sequences.specs.Bytes.{Bytes}
 use Rattle.sequences.specs.Padding.{zeros, padded}
 use Rattle.sequences.specs.Places.{writtenAt}
-use Rattle.sequences.proofs.Bytes.{bytes-append}
 use Rattle.sequences.proofs.Places.{written-fits}
 
 pub drop-zeros : (k n : ℕ) → drop k (zeros n) ≡ zeros (n - k)
@@ -28,14 +27,12 @@ pub bytes-zeros : (k : ℕ) → Bytes (zeros k)
 bytes-zeros zero = tt
 bytes-zeros (suc k) = (zero-lt-suc 255, bytes-zeros k)
 
-pub bytes-padded : (n : ℕ) (s : List ℕ) → Bytes s → Bytes (padded n s)
-bytes-padded n s p = bytes-append s (zeros (n - length s)) p (bytes-zeros (n - length s))
-
 -- written behind what stands in front of the zeros
 pub padded-more : (n : ℕ) (s p : List ℕ) → length s + length p ≤ n → writtenAt (padded n s) (length s) p ≡ padded n (s ++ p)
 padded-more n s p fits =
     let k = n - length s in
     let left : k - length p ≡ n - length (s ++ p) = omega (arith, length-append s p) in
     written-fits (padded n s) p (length s) (omega (arith, padded-size n s (omega arith)))
-    ∙ ap₂ (λ (x y : List ℕ). x ++ (p ++ y)) (take-append-seam s (zeros k)) (drop-append-add s (zeros k) (length p) ∙ drop-zeros (length p) k ∙ ap zeros left)
+    ∙ ap₂ (λ (x y : List ℕ). x ++ (p ++ y)) (take-append-seam s (zeros k))
+    (drop-append-add s (zeros k) (length p) ∙ drop-zeros (length p) k ∙ ap zeros left)
     ∙ sym (append-assoc s p (zeros (n - length (s ++ p))))

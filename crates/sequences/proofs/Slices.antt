@@ -1,13 +1,14 @@
 -- Parts of lists: of one list, and of two read as one. Assumes nothing.
-use mathlib.Core.Path.{_≡_, refl, sym, ap, ap₂, _∙_}
-use mathlib.Core.List.{List, [], _∷_, _++_, append-assoc, append-nil}
+use mathlib.Core.Path.{_≡_, refl, sym, ap, _∙_}
+use mathlib.Core.List.{List, [], _∷_, _++_}
 use mathlib.Core.Logic.{_⊎_, inl, inr, ⊎-elim}
 use Prim.Native.Nat.{ℕ, zero, suc, _+_, _-_, _≤_, _<_}
 use native.Mathlib.Nat.{add-zero}
 use native.Mathlib.Numerals.{add-one}
 use native.Mathlib.Omega.{arith}
-use lib.ListN.{length, take, drop, getD, length-drop}
-use lib.Seq.{slice, take-all, take-length, take-nil, drop-nil, drop-append-le, getD-append-add, take-suc, length-take-le, take-take, take-add, take-at, drop-at, drop-drop, getD-drop, getD-take}
+use lib.ListN.{length, take, drop, getD}
+use lib.Seq.{slice, take-all, take-nil, drop-nil, drop-append-le, getD-append-add, take-suc, length-take-le, take-take, take-add}
+use lib.Seq.{drop-at, drop-drop, getD-drop, getD-take}
 use Rattle.sequences.proofs.Orders.{lt-or-le}
 
 -- ---- of one list
@@ -65,22 +66,27 @@ take-parts zero [] b = ap (λ (n : ℕ). take n b) (let e : 0 ≡ 0 - 0 = omega 
 take-parts zero (x ∷ a) b = ap (λ (n : ℕ). take n b) (let e : 0 ≡ 0 - length (x ∷ a) = omega arith in e)
 take-parts (suc t) [] b = ap (λ (n : ℕ). take n b) (let e : suc t ≡ suc t - 0 = omega arith in e)
 take-parts (suc t) (x ∷ a) b =
-    ap (λ (l : List ℕ). x ∷ l) (take-parts t a b ∙ ap (λ (n : ℕ). take t a ++ take n b) (let e : t - length a ≡ suc t - length (x ∷ a) = omega arith in e))
+    ap (λ (l : List ℕ). x ∷ l)
+    (take-parts t a b ∙ ap (λ (n : ℕ). take t a ++ take n b) (let e : t - length a ≡ suc t - length (x ∷ a) = omega arith in e))
 
 drop-parts : (f : ℕ) (a b : List ℕ) → drop f (a ++ b) ≡ drop f a ++ drop (f - length a) b
 drop-parts zero [] b = ap (λ (n : ℕ). drop n b) (let e : 0 ≡ 0 - 0 = omega arith in e)
 drop-parts zero (x ∷ a) b = ap (λ (n : ℕ). x ∷ a ++ drop n b) (let e : 0 ≡ 0 - length (x ∷ a) = omega arith in e)
 drop-parts (suc f) [] b = ap (λ (n : ℕ). drop n b) (let e : suc f ≡ suc f - 0 = omega arith in e)
-drop-parts (suc f) (x ∷ a) b = drop-parts f a b ∙ ap (λ (n : ℕ). drop f a ++ drop n b) (let e : f - length a ≡ suc f - length (x ∷ a) = omega arith in e)
+drop-parts (suc f) (x ∷ a) b =
+    drop-parts f a b ∙ ap (λ (n : ℕ). drop f a ++ drop n b) (let e : f - length a ≡ suc f - length (x ∷ a) = omega arith in e)
 
 -- the part from f to t stands in the first list up to its end, and then in the second
 pub slice-parts : (f t : ℕ) (a b : List ℕ) → slice f t (a ++ b) ≡ slice f t a ++ slice (f - length a) (t - length a) b
-slice-parts f t a b = ap (drop f) (take-parts t a b) ∙ drop-parts f (take t a) (take (t - length a) b) ∙ ap (λ (l : List ℕ). slice f t a ++ l) (second (lt-or-le t (length a)))
+slice-parts f t a b =
+    ap (drop f) (take-parts t a b) ∙ drop-parts f (take t a) (take (t - length a) b)
+    ∙ ap (λ (l : List ℕ). slice f t a ++ l) (second (lt-or-le t (length a)))
   where
     second : (t < length a) ⊎ (length a ≤ t) → drop (f - length (take t a)) (take (t - length a) b) ≡ slice (f - length a) (t - length a) b
     second (inl h) =
         let z : t - length a ≡ 0 = omega arith in
-        ap (λ (n : ℕ). drop (f - length (take t a)) (take n b)) z ∙ drop-nil (f - length (take t a)) ∙ sym (ap (λ (n : ℕ). drop (f - length a) (take n b)) z ∙ drop-nil (f - length a))
+        ap (λ (n : ℕ). drop (f - length (take t a)) (take n b)) z ∙ drop-nil (f - length (take t a))
+        ∙ sym (ap (λ (n : ℕ). drop (f - length a) (take n b)) z ∙ drop-nil (f - length a))
     second (inr h) = ap (λ (l : List ℕ). drop (f - length l) (take (t - length a) b)) (take-all t a h)
 
 pub getD-slice-first : (f t : ℕ) (l : List ℕ) → f < t → getD (slice f t l) 0 0 ≡ getD l f 0

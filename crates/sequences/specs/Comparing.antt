@@ -3,6 +3,7 @@ use mathlib.Core.Bool.{Bool, true, false, _&&_}
 use mathlib.Core.List.{List, [], _∷_}
 use Prim.Native.Nat.{ℕ}
 use lib.Dec.{eqb}
+use lib.ListN.{length, take}
 
 -- the same bytes
 unfoldable pub same : List ℕ → List ℕ → Bool
@@ -10,3 +11,7 @@ same [] [] = true
 same [] (b ∷ t) = false
 same (a ∷ s) [] = false
 same (a ∷ s) (b ∷ t) = eqb a b && same s t
+
+-- s begins with the bytes t
+abbrev pub beginsWith : List ℕ → List ℕ → Bool
+beginsWith s t = same (take (length t) s) t

@@ -5,7 +5,7 @@ use crate::place;
 ghost use mathlib.Core.Path.{_≡_};
 ghost use mathlib.Core.List.{_++_};
 ghost use Prim.Native.Nat.{_-_};
-ghost use lib.ListN.{length, getD};
+ghost use lib.ListN.{getD};
 ghost use lib.Seq.{slice};
 ghost use Rattle.sequences.specs.Places.{writtenAt};
 

@@ -1,9 +1,9 @@
 // Parts of some bytes.
 use crate::compare::same;
 ghost use mathlib.Core.Path.{_≡_};
-ghost use lib.ListN.{length, take, drop};
+ghost use lib.ListN.{take, drop};
 ghost use lib.Seq.{slice};
-ghost use Rattle.sequences.specs.Comparing.{same};
+ghost use Rattle.sequences.specs.Comparing.{beginsWith};
 
 // The first n bytes of s, or all where it has fewer.
 pub fn front(s: &[u8], n: usize) -> &[u8]
@@ -41,7 +41,7 @@ pub fn between(s: &[u8], from: usize, to: usize) -> &[u8]
 
 // Whether s begins with these bytes.
 pub fn begins(s: &[u8], bytes: &[u8]) -> bool
-    ensures { λ r. ⌜ r ≡ same (take (length (now (bytes .entry))) (now (s .entry))) (now (bytes .entry)) ⌝ }
+    ensures { λ r. ⌜ r ≡ beginsWith (now (s .entry)) (now (bytes .entry)) ⌝ }
 {
     same(front(s, bytes.len()), bytes)
 }

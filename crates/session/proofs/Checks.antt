@@ -12,29 +12,30 @@ use Rattle.frames.specs.declared.finished.FinishedFrame.{FinishedFrame}
 use Rattle.sequences.proofs.Conditionals.{of-both, of-each}
 use Rattle.commands.specs.declared.table.Header.{Header}
 use Rattle.commands.specs.declared.table.Header.the-variants.{Unlisted, Wrong, Right}
-use Rattle.commands.specs.Requests.{channelOf, requestFA, requestFB, requestFC, requestFD, packetOf}
-use Rattle.transfer.specs.declared.board.Board.{Board}
+use Rattle.requests.specs.Requests.{channelOf, requestFA, requestFB, requestFC, requestFD, packetOf}
+use Rattle.boards.specs.declared.board.Board.{Board}
 use Rattle.image.specs.declared.check.Verdict.the-variants.{Unfinished}
 use Rattle.image.specs.declared.check.Check.{Check}
 use Rattle.transfer.specs.declared.state.Transfer.{Transfer}
 use Rattle.transfer.specs.declared.state.Step.{Step}
 use Rattle.transfer.specs.Phases.{idle, toldOrReceiving, receivingOrDone}
-use Rattle.transfer.specs.Identities.{identityOf, sameIdentity}
+use Rattle.agreement.specs.FB.{identityOf, sameIdentity}
 use Rattle.image.specs.Checks.{startedCheck, readOn, saying}
 use Rattle.transfer.specs.Transfers.{Effect, unwritten, withCheck, otherChannel, noted}
-use Rattle.transfer.specs.FA.{refusedFA, answerFA}
-use Rattle.transfer.specs.FB.{stateFB, afterFB, grantFB, answerFB}
-use Rattle.transfer.specs.FC.{answerFC}
-use Rattle.transfer.specs.FD.{takes, effectFD, answerFD}
-use Rattle.transfer.specs.FE.{answerFE, endedFE}
-use Rattle.transfer.specs.Portions.{unread, checkStep, willSay, rightCrc}
+use Rattle.agreement.specs.FA.{refusedFA, answerFA}
+use Rattle.agreement.specs.FB.{stateFB, afterFB, grantFB, answerFB}
+use Rattle.agreement.specs.FC.{answerFC}
+use Rattle.packets.specs.FD.{takes, effectFD, answerFD}
+use Rattle.ending.specs.FE.{answerFE, endedFE}
+use Rattle.ending.specs.Portions.{unread, checkStep, willSay, rightCrc}
 use Rattle.transfer.proofs.PhaseLaws.{image-busy, ending-image}
-use Rattle.transfer.proofs.Ends.{started-says, goes-on, ends}
+use Rattle.ending.proofs.Ends.{started-says, goes-on, ends}
 use Rattle.session.specs.declared.session.Session.{Session}
 use Rattle.session.specs.declared.answer.Answer.{Answer}
-use Rattle.session.specs.Boards.{pastBoard}
+use Rattle.boards.specs.Boards.{pastBoard}
 use Rattle.session.specs.Lawful.{unlawful, Lawful}
-use Rattle.session.specs.Answering.{unchanged, stepped, within, placeFor, effectOf, routed, byHeader, headerOfFrame, judged, reaction, answered, areaAfter}
+use Rattle.session.specs.Answering.{unchanged, stepped, within, placeFor, effectOf, routed, byHeader, headerOfFrame, judged}
+use Rattle.session.specs.Answering.{reaction, answered, areaAfter}
 use Rattle.session.specs.Checking.{checkedBy, checked}
 use Rattle.session.specs.OneGo.{inOneGo}
 use Rattle.session.proofs.Lawfuls.{lawful, lawful-accepted}
@@ -61,7 +62,8 @@ module _ (t : Transfer) (still : t .check .running ≡ false) where
   unfolding answerFB grantFB afterFB
   fb-check b r area =
       of-both Kept (idle (t .leg .phase) || otherChannel t (r .channel)) _ _ refl
-      (of-both Kept (eqb (stateFB b r (length area)) 0) _ _ (of-both (λ (u : Transfer). u .check ≡ t .check) (sameIdentity (identityOf r) (t .image)) _ _ refl refl) refl)
+      (of-both Kept (eqb (stateFB b r (length area)) 0) _ _
+      (of-both (λ (u : Transfer). u .check ≡ t .check) (sameIdentity (identityOf r) (t .image)) _ _ refl refl) refl)
 
   fc-check : (r : _) → Kept (answerFC t r)
   unfolding answerFC
@@ -90,10 +92,12 @@ module _ (t : Transfer) (still : t .check .running ≡ false) where
   step-starts : (f : FinishedFrame) (b : Board) (area : List ℕ) → effectOf t f b area .gives .transfer .check .running ≡ true
       → Starting f (effectOf t f b area .gives) × (effectOf t f b area .area ≡ area)
   unfolding effectOf
-  step-starts f b area e = go (eqb (f .command) 0xFA) (eqb (f .command) 0xFB) (eqb (f .command) 0xFC) (eqb (f .command) 0xFD) refl refl refl refl
+  step-starts f b area e =
+      go (eqb (f .command) 0xFA) (eqb (f .command) 0xFB) (eqb (f .command) 0xFC) (eqb (f .command) 0xFD) refl refl refl refl
     where
       no : {A : Type 0} (x : Step) → effectOf t f b area .gives ≡ x → Kept x → A
-      no x is kept = false-true (sym still ∙ sym (ap (λ (c : Check). c .running) kept) ∙ sym (ap (λ (y : Step). y .transfer .check .running) is) ∙ e)
+      no x is kept =
+          false-true (sym still ∙ sym (ap (λ (c : Check). c .running) kept) ∙ sym (ap (λ (y : Step). y .transfer .check .running) is) ∙ e)
 
       go : (p q u v : Bool) → eqb (f .command) 0xFA ≡ p → eqb (f .command) 0xFB ≡ q → eqb (f .command) 0xFC ≡ u → eqb (f .command) 0xFD ≡ v
           → Starting f (effectOf t f b area .gives) × (effectOf t f b area .area ≡ area)
@@ -101,12 +105,15 @@ module _ (t : Transfer) (still : t .check .running ≡ false) where
       go false true u v ep eq eu ev = no (answerFB t b (requestFB (f .bytes)) area) (rw (ep, eq)) (fb-check b (requestFB (f .bytes)) area)
       go false false true v ep eq eu ev = no (answerFC t (requestFC (f .bytes))) (rw (ep, eq, eu)) (fc-check (requestFC (f .bytes)))
       go false false false true ep eq eu ev =
-          no (answerFD t (requestFD (f .bytes)) (packetOf (f .length) (f .bytes)) area) (rw (ep, eq, eu, ev)) (fd-check (requestFD (f .bytes)) (packetOf (f .length) (f .bytes)) area)
+          no (answerFD t (requestFD (f .bytes)) (packetOf (f .length) (f .bytes)) area) (rw (ep, eq, eu, ev))
+          (fd-check (requestFD (f .bytes)) (packetOf (f .length) (f .bytes)) area)
       go false false false false ep eq eu ev =
           let x : effectOf t f b area ≡ unwritten (answerFE t (channelOf (f .bytes))) area = rw (ep, eq, eu, ev) in
           let g = ap (λ (y : Effect Step). y .gives) x in
-          let starts = fe-starts (channelOf (f .bytes)) (sym (ap (λ (y : Step). y .transfer .check .running) g) ∙ e) in
-          (record { is = g ∙ starts; answers = starts; not-fa = ep; not-fb = eq; not-fc = eu; not-fd = ev }, ap (λ (y : Effect Step). y .area) x)
+          let starts = fe-starts (channelOf (f .bytes)) (sym (ap (λ (y : Step). y .transfer .check .running) g) ∙ e) in (
+            record { is = g ∙ starts; answers = starts; not-fa = ep; not-fb = eq; not-fc = eu; not-fd = ev },
+            ap (λ (y : Effect Step). y .area) x,
+          )
 
 -- a frame after which a check runs, though none did before
 pub record StartedBy (s : Session) (f : FinishedFrame) (area : List ℕ) : Type 0 where
@@ -115,16 +122,19 @@ pub record StartedBy (s : Session) (f : FinishedFrame) (area : List ℕ) : Type 
   pub answers : answerFE (s .transfer) (channelOf (f .bytes)) ≡ noted (withCheck (s .transfer) startedCheck)
   pub same-area : areaAfter s f area ≡ area
 
-pub started-by : (s : Session) (f : FinishedFrame) (area : List ℕ) → s .transfer .check .running ≡ false → answered s f area .session .transfer .check .running ≡ true
+pub started-by : (s : Session) (f : FinishedFrame) (area : List ℕ) → s .transfer .check .running ≡ false
+    → answered s f area .session .transfer .check .running ≡ true
     → StartedBy s f area
 unfolding reaction judged routed
 started-by s f area still e =
-    go (unlawful s) (not (eqb (length area) (s .opened))) (headerOfFrame f) (eqb (f .command) 0xF9) (ltb (placeFor s f) (s .count)) refl refl refl refl refl
+    go (unlawful s) (not (eqb (length area) (s .opened))) (headerOfFrame f) (eqb (f .command) 0xF9)
+    (ltb (placeFor s f) (s .count)) refl refl refl refl refl
   where
     no : (n : ℕ) → reaction s f area ≡ unwritten (unchanged n s) area → StartedBy s f area
     no n is = false-true (sym still ∙ sym (ap (λ (x : Effect Answer). x .gives .session .transfer .check .running) is) ∙ e)
 
-    go : (a b : Bool) (h : Header) (c d : Bool) → unlawful s ≡ a → not (eqb (length area) (s .opened)) ≡ b → headerOfFrame f ≡ h → eqb (f .command) 0xF9 ≡ c
+    go : (a b : Bool) (h : Header) (c d : Bool) → unlawful s ≡ a → not (eqb (length area) (s .opened)) ≡ b → headerOfFrame f ≡ h
+        → eqb (f .command) 0xF9 ≡ c
         → ltb (placeFor s f) (s .count) ≡ d → StartedBy s f area
     go true b h c d ea eb eh ec ed = no 9 (rw ea)
     go false true h c d ea eb eh ec ed = no 6 (rw (ea, eb))
@@ -146,10 +156,12 @@ started-by s f area still e =
           same-area = ap (λ (z : Effect Answer). z .area) x ∙ both .1;
         }
 
-pub started-lawful : (s : Session) (f : FinishedFrame) (area : List ℕ) → unlawful s ≡ false → s .transfer .check .running ≡ false → StartedBy s f area
+pub started-lawful : (s : Session) (f : FinishedFrame) (area : List ℕ) → unlawful s ≡ false → s .transfer .check .running ≡ false
+    → StartedBy s f area
     → unlawful (withTransfer s (withCheck (s .transfer) startedCheck)) ≡ false
 started-lawful s f area ok still y =
-    lawful-accepted _ (subst (λ (x : Step). Lawful (withTransfer s (x .transfer))) (y .answers) (fe-kept s (lawful s ok) still (channelOf (f .bytes))))
+    lawful-accepted _ (subst (λ (x : Step). Lawful (withTransfer s (x .transfer))) (y .answers)
+    (fe-kept s (lawful s ok) still (channelOf (f .bytes))))
 
 -- while a check runs, no frame changes anything or has a reply
 pub record RunningSame (s : Session) (area : List ℕ) (x : Effect Answer) : Type 0 where
@@ -157,7 +169,8 @@ pub record RunningSame (s : Session) (area : List ℕ) (x : Effect Answer) : Typ
   pub no-reply : x .gives .replies ≡ false
   pub same-area : x .area ≡ area
 
-pub running-same : (s : Session) (f : FinishedFrame) (area : List ℕ) → s .transfer .check .running ≡ true → RunningSame s area (reaction s f area)
+pub running-same : (s : Session) (f : FinishedFrame) (area : List ℕ) → s .transfer .check .running ≡ true
+    → RunningSame s area (reaction s f area)
 unfolding reaction judged routed
 running-same s f area runs =
     let P = RunningSame s area in
@@ -175,7 +188,8 @@ module _ (s : Session) (f : FinishedFrame) (area : List ℕ) where
   abbrev pub met : ℕ
   met = byHeader (headerOfFrame f) 2 3 (cond (eqb (f .command) 0xF9) 0 (cond (ltb (placeFor s f) (s .count)) 12 4))
 
-  pub running-answers : unlawful s ≡ false → length area ≡ s .opened → s .transfer .check .running ≡ true → reaction s f area ≡ unwritten (unchanged met s) area
+  pub running-answers : unlawful s ≡ false → length area ≡ s .opened → s .transfer .check .running ≡ true
+      → reaction s f area ≡ unwritten (unchanged met s) area
   unfolding reaction judged routed
   running-answers ok size runs = go (headerOfFrame f) (eqb (f .command) 0xF9) (ltb (placeFor s f) (s .count)) refl refl refl
     where
@@ -188,7 +202,8 @@ module _ (s : Session) (f : FinishedFrame) (area : List ℕ) where
       go Right false false eh ea eb = rw (ok, eq-eqb (length area) (s .opened) size, eh, ea, eb)
 
 -- while none runs, no frame gets 12
-pub still-answers : (s : Session) (f : FinishedFrame) (area : List ℕ) → s .transfer .check .running ≡ false → answered s f area .outcome ≡ 12 → ⊥
+pub still-answers : (s : Session) (f : FinishedFrame) (area : List ℕ) → s .transfer .check .running ≡ false
+    → answered s f area .outcome ≡ 12 → ⊥
 unfolding reaction judged routed
 still-answers s f area still =
     let P : Effect Answer → Type 0 = λ x. x .gives .outcome ≡ 12 → ⊥ in
@@ -198,7 +213,8 @@ still-answers s f area still =
     (by-header P (headerOfFrame f) _ _ _ (λ z. omega arith) (λ z. omega arith)
     (of-both P (eqb (f .command) 0xF9) _ _ (λ z. omega arith)
     (of-both P (ltb (placeFor s f) (s .count)) _ _
-    (of-each P (s .transfer .check .running) _ _ (λ e. false-true (sym still ∙ e)) (λ _. of-both (λ (n : ℕ). n ≡ 12 → ⊥) (step .answered) 0 10 (λ z. omega arith) (λ z. omega arith)))
+    (of-each P (s .transfer .check .running) _ _ (λ e. false-true (sym still ∙ e))
+    (λ _. of-both (λ (n : ℕ). n ≡ 12 → ⊥) (step .answered) 0 10 (λ z. omega arith) (λ z. omega arith)))
     (λ z. omega arith)))))
 
 -- ---- what a running check comes to
@@ -208,15 +224,18 @@ abbrev pub dueOf : Session → List ℕ → Step
 dueOf s area = endedFE (s .transfer) (willSay (s .transfer) area)
 
 -- as the check in one go has it
-pub started-due : (s : Session) (f : FinishedFrame) (area : List ℕ) → answered s f area .session .transfer .check .running ≡ true → StartedBy s f area
+pub started-due : (s : Session) (f : FinishedFrame) (area : List ℕ) → answered s f area .session .transfer .check .running ≡ true
+    → StartedBy s f area
     → inOneGo s f area ≡ stepped (answered s f area .session) (dueOf (answered s f area .session) area)
 unfolding inOneGo
 started-due s f area e y =
     let a = answered s f area in
-    let says = ap (λ (x : Answer). willSay (x .session .transfer) area) (y .is) ∙ started-says (s .transfer) area ∙ sym (ap (λ (x : Answer). rightCrc (x .session .transfer) area) (y .is)) in
+    let says = ap (λ (x : Answer). willSay (x .session .transfer) area) (y .is) ∙ started-says (s .transfer) area
+    ∙ sym (ap (λ (x : Answer). rightCrc (x .session .transfer) area) (y .is)) in
     rw e (ap (λ (b : Bool). stepped (a .session) (endedFE (a .session .transfer) b)) (sym says))
 
-module _ (s : Session) (most : ℕ) (area : List ℕ) (ok : unlawful s ≡ false) (size : length area ≡ s .opened) (runs : s .transfer .check .running ≡ true) where
+module _ (s : Session) (most : ℕ) (area : List ℕ) (ok : unlawful s ≡ false) (size : length area ≡ s .opened)
+    (runs : s .transfer .check .running ≡ true) where
   abbrev t : Transfer
   t = s .transfer
 
@@ -232,7 +251,8 @@ module _ (s : Session) (most : ℕ) (area : List ℕ) (ok : unlawful s ≡ false
 
   -- unfinished: nothing but the check's own fields changes, and the same is due
   pub record Unended : Type 0 where
-    pub is : checked s most area ≡ checkedBy s (record { count = most; verdict = Unfinished; step = noted (withCheck t (readOn (t .check) most area)) })
+    pub is : checked s most area ≡ checkedBy s
+        (record { count = most; verdict = Unfinished; step = noted (withCheck t (readOn (t .check) most area)) })
     pub lawful-on : unlawful (withTransfer s (withCheck t (readOn (t .check) most area))) ≡ false
     pub same-says : willSay (withCheck t (readOn (t .check) most area)) area ≡ willSay t area
     pub same-due : dueOf (withTransfer s (withCheck t (readOn (t .check) most area))) area ≡ dueOf s area
@@ -321,4 +341,5 @@ module _ (s : Session) (most : ℕ) (area : List ℕ) (ok : unlawful s ≡ false
       })
 
   pub finished-by : unread t ≤ most → Finished
-  finished-by h = record { is = is-portion ∙ ap (checkedBy s) (ends t most area fits inside h); lawful-after = ended-lawful (willSay t area) }
+  finished-by h =
+      record { is = is-portion ∙ ap (checkedBy s) (ends t most area fits inside h); lawful-after = ended-lawful (willSay t area) }

@@ -15,22 +15,24 @@ use Rattle.sequences.proofs.Conditionals.{neither, of-both}
 use Rattle.commands.specs.declared.table.Header.the-variants.{Right}
 use Rattle.sequences.specs.Search.{find}
 use Rattle.commands.specs.Table.{table, rowAt, placeInTable, headerOf}
-use Rattle.commands.specs.Replies.{maxReply, replyState}
-use Rattle.commands.specs.Requests.{channelOf}
-use Rattle.transfer.specs.declared.board.Board.{Board}
+use Rattle.commands.specs.Limits.{maxReply}
+use Rattle.replies.specs.Replies.{replyState}
+use Rattle.requests.specs.Requests.{channelOf}
+use Rattle.boards.specs.declared.board.Board.{Board}
 use Rattle.transfer.specs.declared.state.Transfer.{Transfer}
 use Rattle.transfer.specs.declared.state.Step.{Step}
 use Rattle.transfer.specs.Phases.{receivingOrDone}
 use Rattle.image.specs.Checks.{startedCheck}
 use Rattle.transfer.specs.Transfers.{Effect, unwritten, withCheck, otherChannel, replied, noted}
-use Rattle.transfer.specs.FE.{reachesCrc, answerFE, endedFE}
-use Rattle.transfer.specs.Portions.{rightCrc}
+use Rattle.ending.specs.FE.{reachesCrc, answerFE, endedFE}
+use Rattle.ending.specs.Portions.{rightCrc}
 use Rattle.transfer.proofs.PhaseLaws.{image-busy, ending-image}
 use Rattle.session.specs.declared.session.Session.{Session}
 use Rattle.session.specs.declared.answer.Answer.{Answer}
-use Rattle.session.specs.Boards.{pastBoard, placeOf}
+use Rattle.boards.specs.Boards.{pastBoard, placeOf}
 use Rattle.session.specs.Lawful.{unlawful}
-use Rattle.session.specs.Answering.{unchanged, stepped, within, placeFor, effectOf, routed, headerOfFrame, judged, reaction, answered, areaAfter}
+use Rattle.session.specs.Answering.{unchanged, stepped, within, placeFor, effectOf, routed, headerOfFrame, judged, reaction}
+use Rattle.session.specs.Answering.{answered, areaAfter}
 use Rattle.session.specs.OneGo.{inOneGo}
 use Rattle.session.specs.EndRequest.{IsEndRequest, Complete, SuccessIn, EndRequest}
 use Rattle.session.proofs.Headers.{by-header}
@@ -48,7 +50,8 @@ short t = not (eqb (t .progress .stored) (t .image .announced))
 -- FE with its check in one go
 unfoldable goFE : Transfer → ℕ → List ℕ → Step
 goFE t channel area =
-    cond (early t channel) (replied t (replyState channel 3)) (cond (short t) (replied t (replyState channel 1)) (endedFE t (rightCrc t area)))
+    cond (early t channel) (replied t (replyState channel 3))
+    (cond (short t) (replied t (replyState channel 1)) (endedFE t (rightCrc t area)))
 
 -- another state is another reply
 not-success : (m k n : ℕ) → padded maxReply (replyState m n) ≡ padded maxReply (replyState k 0) → n ≡ 0
@@ -89,7 +92,8 @@ module _ (t : Transfer) (channel : ℕ) (area : List ℕ) where
   unfolding goFE endedFE
   go-answered = go (early t channel) (short t) (rightCrc t area) refl refl refl
     where
-      go : (a b c : Bool) → early t channel ≡ a → short t ≡ b → rightCrc t area ≡ c → (goFE t channel area .answered ≡ true) × (goFE t channel area .replies ≡ true)
+      go : (a b c : Bool) → early t channel ≡ a → short t ≡ b → rightCrc t area ≡ c
+          → (goFE t channel area .answered ≡ true) × (goFE t channel area .replies ≡ true)
       go true b c ea eb ec = (simp ea, simp ea)
       go false true c ea eb ec = (simp (ea, eb), simp (ea, eb))
       go false false false ea eb ec = (simp (ea, eb, ec), simp (ea, eb, ec))
@@ -101,7 +105,8 @@ pub fe-header : (f : FinishedFrame) (channel : ℕ) → IsEndRequest f channel �
 unfolding headerOf placeInTable rowAt table find
 fe-header f channel r = simp (r .command, r .version, r .size)
 
-module _ (s : Session) (f : FinishedFrame) (channel : ℕ) (area : List ℕ) (e : unlawful s ≡ false) (size : length area ≡ s .opened) (r : IsEndRequest f channel) where
+module _ (s : Session) (f : FinishedFrame) (channel : ℕ) (area : List ℕ) (e : unlawful s ≡ false) (size : length area ≡ s .opened)
+    (r : IsEndRequest f channel) where
   abbrev t : Transfer
   t = s .transfer
 
@@ -132,7 +137,9 @@ module _ (s : Session) (f : FinishedFrame) (channel : ℕ) (area : List ℕ) (e 
       (of-both P (not (eqb (length area) (s .opened))) _ _ refl
       (by-header P (headerOfFrame f) _ _ _ refl refl
       (of-both P (eqb (f .command) 0xF9) _ _ refl
-      (of-both P (ltb (placeFor s f) (s .count)) _ _ (of-both P (t .check .running) _ _ refl (ap (λ (x : Effect Step). x .area) (fe-effect (getD (s .boards) (placeFor s f) pastBoard)))) refl))))
+      (of-both P (ltb (placeFor s f) (s .count)) _ _
+      (of-both P (t .check .running) _ _ refl
+      (ap (λ (x : Effect Step). x .area) (fe-effect (getD (s .boards) (placeFor s f) pastBoard)))) refl))))
 
   -- one for an unlisted channel is not complete
   pub unlisted-incomplete : listed ≡ false → Complete t channel area → ⊥
@@ -150,7 +157,8 @@ module _ (s : Session) (f : FinishedFrame) (channel : ℕ) (area : List ℕ) (e 
     fe-routed : answered s f area ≡ cond listed (stepped s (answerFE t channel)) (unchanged 4 s)
     fe-routed = ap (λ (x : Effect Answer). x .gives) fe-reaction ∙ out listed
       where
-        out : (b : Bool) → cond b (within s (unwritten (answerFE t channel) area)) (unwritten (unchanged 4 s) area) .gives ≡ cond b (stepped s (answerFE t channel)) (unchanged 4 s)
+        out : (b : Bool) → cond b (within s (unwritten (answerFE t channel) area)) (unwritten (unchanged 4 s) area) .gives ≡ cond b
+            (stepped s (answerFE t channel)) (unchanged 4 s)
         out true = refl
         out false = refl
 
@@ -159,7 +167,8 @@ module _ (s : Session) (f : FinishedFrame) (channel : ℕ) (area : List ℕ) (e 
     unfolding inOneGo answerFE goFE endedFE
     in-one-go = go listed (early t channel) (short t) refl refl refl
       where
-        go : (l a b : Bool) → listed ≡ l → early t channel ≡ a → short t ≡ b → inOneGo s f area ≡ cond listed (stepped s (goFE t channel area)) (unchanged 4 s)
+        go : (l a b : Bool) → listed ≡ l → early t channel ≡ a → short t ≡ b
+            → inOneGo s f area ≡ cond listed (stepped s (goFE t channel area)) (unchanged 4 s)
         go false a b el ea eb = rw fe-routed (simp (el, still))
         go true true b el ea eb = rw fe-routed (simp (el, ea, still))
         go true false true el ea eb = rw fe-routed (simp (el, ea, eb, still))
@@ -189,33 +198,48 @@ module _ (s : Session) (f : FinishedFrame) (channel : ℕ) (area : List ℕ) (e 
     none-starts : answerFE t channel .transfer .check .running ≡ false → answered s f area .session .transfer .check .running ≡ false
     none-starts none =
         ap (λ (x : Answer). x .session .transfer .check .running) fe-routed
-        ∙ of-both (λ (x : Answer). x .session .transfer .check .running ≡ false) listed (stepped s (answerFE t channel)) (unchanged 4 s) none still
+        ∙ of-both (λ (x : Answer). x .session .transfer .check .running ≡ false) listed (stepped s (answerFE t channel))
+        (unchanged 4 s) none still
 
     -- it starts a check exactly when it gets as far as the CRC
     pub starts-at-crc : answered s f area .session .transfer .check .running ≡ reachesCrc t channel
     unfolding answerFE
-    starts-at-crc = go listed (receivingOrDone (t .leg .phase)) (otherChannel t channel) (eqb (t .progress .stored) (t .image .announced)) refl refl refl refl
+    starts-at-crc =
+        go listed (receivingOrDone (t .leg .phase)) (otherChannel t channel)
+        (eqb (t .progress .stored) (t .image .announced)) refl refl refl refl
       where
-        go : (l a b c : Bool) → listed ≡ l → receivingOrDone (t .leg .phase) ≡ a → otherChannel t channel ≡ b → eqb (t .progress .stored) (t .image .announced) ≡ c
+        go : (l a b c : Bool) → listed ≡ l → receivingOrDone (t .leg .phase) ≡ a → otherChannel t channel ≡ b
+            → eqb (t .progress .stored) (t .image .announced) ≡ c
             → answered s f area .session .transfer .check .running ≡ reachesCrc t channel
         go l false b c el ea eb ec = none-starts (simp (ea, still)) ∙ simp ea
         go l true true c el ea eb ec = none-starts (simp (ea, eb, still)) ∙ simp (ea, eb)
         go l true false false el ea eb ec = none-starts (simp (ea, eb, ec, still)) ∙ simp (ea, eb, ec)
         go true true false true el ea eb ec = ap (λ (x : Answer). x .session .transfer .check .running) fe-routed ∙ simp (el, ea, eb, ec)
-        go false true false true el ea eb ec = absurd (let z = sym (own-listed ea (eqb-true channel (t .leg .channel) (not-false _ eb))) ∙ el in let y : _≡_ {A = ℕ} 0 1 = cc in omega arith)
+        go false true false true el ea eb ec =
+            absurd (let z = sym (own-listed ea (eqb-true channel (t .leg .channel) (not-false _ eb))) ∙ el in let y : _≡_ {A = ℕ} 0 1 =
+            cc in omega arith)
 
     -- a complete transfer's end request does
     pub complete-reaches : Complete t channel area → reachesCrc t channel ≡ true
-    complete-reaches c = simp (c .open-or-accepted, eq-eqb channel (t .leg .channel) (c .here), eq-eqb (t .progress .stored) (t .image .announced) (c .all-stored))
+    complete-reaches c =
+        simp (
+          c .open-or-accepted,
+          eq-eqb channel (t .leg .channel) (c .here),
+          eq-eqb (t .progress .stored) (t .image .announced) (c .all-stored),
+        )
 
     -- one that starts none is answered 03 or 01, or not at all
     pub early-answers : answered s f area .session .transfer .check .running ≡ false
-        → (answered s f area ≡ unchanged 4 s) ⊎ ((answered s f area ≡ stepped s (replied t (replyState channel 3))) ⊎ (answered s f area ≡ stepped s (replied t (replyState channel 1))))
+        → (answered s f area ≡ unchanged 4 s) ⊎
+        ((answered s f area ≡ stepped s (replied t (replyState channel 3))) ⊎
+        (answered s f area ≡ stepped s (replied t (replyState channel 1))))
     unfolding answerFE
     early-answers none = go listed (early t channel) (short t) refl refl refl
       where
         go : (l a b : Bool) → listed ≡ l → early t channel ≡ a → short t ≡ b
-            → (answered s f area ≡ unchanged 4 s) ⊎ ((answered s f area ≡ stepped s (replied t (replyState channel 3))) ⊎ (answered s f area ≡ stepped s (replied t (replyState channel 1))))
+            → (answered s f area ≡ unchanged 4 s) ⊎
+            ((answered s f area ≡ stepped s (replied t (replyState channel 3))) ⊎
+            (answered s f area ≡ stepped s (replied t (replyState channel 1))))
         go false a b el ea eb = inl (fe-routed ∙ simp el)
         go true true b el ea eb = inr (inl (fe-routed ∙ simp (el, ea)))
         go true false true el ea eb = inr (inr (fe-routed ∙ simp (el, ea, eb)))
@@ -225,12 +249,14 @@ module _ (s : Session) (f : FinishedFrame) (channel : ℕ) (area : List ℕ) (e 
             absurd (let z : _≡_ {A = ℕ} 0 1 = cc in omega arith)
 
     -- one that starts a check lacks nothing but the right CRC-32
-    pub started-complete : answered s f area .session .transfer .check .running ≡ true → checksum crc32 (take (t .image .announced) area) ≡ t .image .crc → Complete t channel area
+    pub started-complete : answered s f area .session .transfer .check .running ≡ true
+        → checksum crc32 (take (t .image .announced) area) ≡ t .image .crc → Complete t channel area
     unfolding answerFE
     started-complete runs right = go listed (early t channel) (short t) refl refl refl
       where
         no : {A : Type 0} (a : Answer) → answered s f area ≡ a → a .session .transfer .check .running ≡ false → A
-        no a is none = let y = sym runs ∙ ap (λ (x : Answer). x .session .transfer .check .running) is ∙ none in absurd (let z : _≡_ {A = ℕ} 0 1 = cc in omega arith)
+        no a is none = let y = sym runs ∙ ap (λ (x : Answer). x .session .transfer .check .running) is ∙ none in
+            absurd (let z : _≡_ {A = ℕ} 0 1 = cc in omega arith)
 
         go : (l a b : Bool) → listed ≡ l → early t channel ≡ a → short t ≡ b → Complete t channel area
         go false a b el ea eb = no (unchanged 4 s) (fe-routed ∙ simp el) still

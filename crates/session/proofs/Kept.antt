@@ -7,36 +7,35 @@ use native.Mathlib.Omega.{arith}
 use borrow.Author.Tests.{ltb-true, ltb-false, eqb-true, eqb-false, not-false}
 use lib.Dec.{ltb, eqb}
 use lib.ListN.{length, getD}
-use Rattle.sequences.specs.Bytes.{Bytes}
-use Rattle.sequences.proofs.Bytes.{bytes-at}
 use Rattle.frames.specs.declared.finished.FinishedFrame.{FinishedFrame}
-use Rattle.commands.specs.declared.request.RequestFA.{RequestFA}
-use Rattle.commands.specs.declared.request.RequestFB.{RequestFB}
-use Rattle.commands.specs.declared.request.RequestFC.{RequestFC}
-use Rattle.commands.specs.declared.request.RequestFD.{RequestFD}
-use Rattle.commands.specs.Requests.{channelOf, requestFA, requestFB, requestFC, requestFD, packetOf}
+use Rattle.requests.specs.declared.request.RequestFA.{RequestFA}
+use Rattle.requests.specs.declared.request.RequestFB.{RequestFB}
+use Rattle.requests.specs.declared.request.RequestFC.{RequestFC}
+use Rattle.requests.specs.declared.request.RequestFD.{RequestFD}
+use Rattle.requests.specs.Requests.{channelOf, requestFA, requestFB, requestFC, requestFD, packetOf}
 use Rattle.commands.specs.Limits.{minPacket, maxPacket, maxNext}
 use Rattle.transfer.specs.declared.phase.Phase.the-variants.{Idle, Told}
-use Rattle.transfer.specs.declared.board.Board.{Board}
+use Rattle.boards.specs.declared.board.Board.{Board}
 use Rattle.transfer.specs.declared.state.Transfer.{Transfer}
 use Rattle.transfer.specs.declared.state.Step.{Step}
 use Rattle.transfer.specs.Phases.{idle, hasImage, toldOrReceiving, receiving, receivingOrDone}
 use Rattle.sequences.specs.Comparing.{same}
-use Rattle.transfer.specs.Identities.{newer, identityOf, sameIdentity}
+use Rattle.agreement.specs.Versions.{newer}
+use Rattle.agreement.specs.FB.{identityOf, sameIdentity}
 use Rattle.transfer.specs.Transfers.{Effect, unwritten, withPhase, replaced, otherChannel}
-use Rattle.transfer.specs.FA.{refusedFA, agreedSize, asked, answerFA}
-use Rattle.transfer.specs.FB.{stateFB, afterFB, grantFB, answerFB}
-use Rattle.transfer.specs.FC.{startOf, startedAt, answerFC}
-use Rattle.transfer.specs.FD.{takes, afterPacket, effectFD, answerFD}
-use Rattle.transfer.specs.FE.{answerFE}
+use Rattle.agreement.specs.FA.{refusedFA, agreedSize, asked, answerFA}
+use Rattle.agreement.specs.FB.{stateFB, afterFB, grantFB, answerFB}
+use Rattle.agreement.specs.FC.{startOf, startedAt, answerFC}
+use Rattle.packets.specs.FD.{takes, afterPacket, effectFD, answerFD}
+use Rattle.ending.specs.FE.{answerFE}
 use Rattle.sequences.proofs.Conditionals.{no-refusal, neither, of-both, of-each}
 use Rattle.transfer.proofs.PhaseLaws.{image-busy, receiving-busy, started-image, ending-image}
 use Rattle.sequences.proofs.Places.{written-size}
 use Rattle.image.proofs.Storing.{storing-within, storing-last, storing-last-stored}
-use Rattle.transfer.proofs.Packets.{taken}
+use Rattle.packets.proofs.Packets.{taken}
 use Rattle.session.specs.declared.session.Session.{Session}
 use Rattle.session.specs.declared.answer.Answer.{Answer}
-use Rattle.session.specs.Boards.{pastBoard, placeOf}
+use Rattle.boards.specs.Boards.{pastBoard, placeOf}
 use Rattle.session.specs.Transfers.{withTransfer}
 use Rattle.session.specs.Lawful.{unlawful, Lawful}
 use Rattle.session.specs.Answering.{unchanged, placeFor, effectOf, routed, headerOfFrame, judged, reaction, answered, areaAfter}
@@ -65,7 +64,8 @@ module _ (s : Session) (k : Lawful s) (still : s .transfer .check .running ≡ f
     image : hasImage (u .leg .phase) ≡ true → 0 < u .image .announced
 
   in-order : (u : Transfer) → u .progress .stored ≤ u .image .announced → u .image .announced ≤ s .opened → u .leg .next ≤ maxNext
-      → u .progress .last ≤ maxPacket → u .progress .last ≤ u .progress .stored → u .check .running ≡ false → Asked u → Lawful (withTransfer s u)
+      → u .progress .last ≤ maxPacket → u .progress .last ≤ u .progress .stored → u .check .running ≡ false → Asked u
+      → Lawful (withTransfer s u)
   in-order u stored announced number most-last last-stored none a =
       record {
         list = k .list;
@@ -104,7 +104,9 @@ module _ (s : Session) (k : Lawful s) (still : s .transfer .check .running ≡ f
       }
 
   agreed-fits : (n : ℕ) → minPacket ≤ n → (minPacket ≤ agreedSize n) × (agreedSize n ≤ maxPacket)
-  agreed-fits n h = of-each (λ (m : ℕ). (minPacket ≤ m) × (m ≤ maxPacket)) (ltb n maxPacket) n maxPacket (λ e. let g = ltb-true n maxPacket e in (h, omega arith)) (λ e. (omega arith, omega arith))
+  agreed-fits n h =
+      of-each (λ (m : ℕ). (minPacket ≤ m) × (m ≤ maxPacket)) (ltb n maxPacket) n maxPacket
+      (λ e. let g = ltb-true n maxPacket e in (h, omega arith)) (λ e. (omega arith, omega arith))
 
   fa-kept : (b : Board) (r : RequestFA) → placeOf (s .boards) (s .count) (r .channel) < s .count → Kept (answerFA t b r)
   unfolding answerFA
@@ -159,9 +161,11 @@ module _ (s : Session) (k : Lawful s) (still : s .transfer .check .running ≡ f
       of-each Kept (not (toldOrReceiving (t .leg .phase)) || otherChannel t (r .channel)) _ _ (λ e. k)
       (λ e.
       let h = started-image (t .leg .phase) (not-false _ (neither (not (toldOrReceiving (t .leg .phase))) _ e .0)) in
-      let start = of-both (λ (n : ℕ). n ≤ t .image .announced) (eqb (r .offset) (t .progress .stored)) (t .progress .stored) 0 (k .stored) (omega arith) in
+      let start = of-both (λ (n : ℕ). n ≤ t .image .announced) (eqb (r .offset) (t .progress .stored)) (t .progress .stored) 0
+      (k .stored) (omega arith) in
       let u = startedAt t (startOf t r) in
-      in-order u start (k .announced) (omega arith) (omega arith) (omega arith) still (busy-asked u (image-busy (t .leg .phase) h) refl refl (λ f. k .some-image h)))
+      in-order u start (k .announced) (omega arith) (omega arith) (omega arith) still
+      (busy-asked u (image-busy (t .leg .phase) h) refl refl (λ f. k .some-image h)))
 
   -- after number 65,535 no packet is next; a packet's length is at most the agreed size
   fd-kept : (r : RequestFD) (p area : List ℕ) → Kept (answerFD t r p area)
@@ -173,8 +177,10 @@ module _ (s : Session) (k : Lawful s) (still : s .transfer .check .running ≡ f
       let number = taken-as .within in
       let stored = storing-within (t .progress) p area (t .image .announced) (taken-as .fits) (k .stored) in
       let size = taken-as .agreed in
-      let most = k .most-size (receiving-busy (t .leg .phase) (not-false _ (neither (not (receiving (t .leg .phase))) _ (taken-as .here) .0))) in
-      in-order (afterPacket t p area) stored (k .announced) (omega arith) (storing-last (t .progress) p area maxPacket (omega arith) (k .most-last))
+      let most = k .most-size
+      (receiving-busy (t .leg .phase) (not-false _ (neither (not (receiving (t .leg .phase))) _ (taken-as .here) .0))) in
+      in-order (afterPacket t p area) stored (k .announced) (omega arith)
+      (storing-last (t .progress) p area maxPacket (omega arith) (k .most-last))
       (storing-last-stored (t .progress) p area (k .last-stored)) still
       (record { listed = k .listed; least = k .least-size; most = k .most-size; image = k .some-image }))
       (λ e. k)
@@ -206,14 +212,16 @@ module _ (s : Session) (k : Lawful s) (still : s .transfer .check .running ≡ f
         some-image = k .some-image;
       }))
 
-  step-kept : (f : FinishedFrame) (b : Board) (area : List ℕ) → length area ≡ s .opened → placeFor s f < s .count → Kept (effectOf t f b area .gives)
+  step-kept : (f : FinishedFrame) (b : Board) (area : List ℕ) → length area ≡ s .opened → placeFor s f < s .count
+      → Kept (effectOf t f b area .gives)
   unfolding effectOf requestFA
   step-kept f b area size here =
       let P : Effect Step → Type 0 = λ x. Kept (x .gives) in
       of-both P (eqb (f .command) 0xFA) _ _ (fa-kept b (requestFA (f .bytes)) here)
       (of-both P (eqb (f .command) 0xFB) _ _ (fb-kept b (requestFB (f .bytes)) area size)
       (of-both P (eqb (f .command) 0xFC) _ _ (fc-kept (requestFC (f .bytes)))
-      (of-both P (eqb (f .command) 0xFD) _ _ (fd-kept (requestFD (f .bytes)) (packetOf (f .length) (f .bytes)) area) (fe-kept (channelOf (f .bytes))))))
+      (of-both P (eqb (f .command) 0xFD) _ _ (fd-kept (requestFD (f .bytes)) (packetOf (f .length) (f .bytes)) area)
+      (fe-kept (channelOf (f .bytes))))))
 
 -- what every answer keeps
 pub record Keeps (s : Session) (a : Answer) : Type 0 where
@@ -226,7 +234,8 @@ pub answer-keeps : (s : Session) (f : FinishedFrame) (area : List ℕ) → unlaw
 unfolding reaction judged routed
 answer-keeps s f area e =
     let P : Effect Answer → Type 0 = λ x. Keeps s (x .gives) in
-    let same : (n : ℕ) → P (unwritten (unchanged n s) area) = λ n. record { accepted = e; same-list = refl; same-count = refl; same-area = refl } in
+    let same : (n : ℕ) → P (unwritten (unchanged n s) area) =
+    λ n. record { accepted = e; same-list = refl; same-count = refl; same-area = refl } in
     of-each P (unlawful s) _ _ (λ _. same 9)
     (λ _. of-each P (not (eqb (length area) (s .opened))) _ _ (λ _. same 6)
     (λ z.

@@ -7,22 +7,16 @@ use native.Mathlib.Omega.{arith}
 use borrow.Author.Tests.{ltb-true, ltb-false, lt-ltb, le-ltb, eqb-true, eqb-false, eq-eqb, ne-eqb, not-false}
 use lib.Dec.{ltb, eqb}
 use Rattle.commands.specs.Limits.{minPacket, maxPacket, maxArea}
-use Rattle.transfer.specs.declared.board.Board.{Board}
+use Rattle.boards.specs.declared.board.Board.{Board}
 use Rattle.transfer.specs.declared.state.Transfer.{Transfer}
 use Rattle.transfer.specs.Phases.{idle, hasImage, receivingOrDone}
 use Rattle.sequences.proofs.Conditionals.{neither}
 use Rattle.transfer.proofs.PhaseLaws.{image-busy}
 use Rattle.session.specs.declared.session.Session.{Session}
-use Rattle.session.specs.Boards.{maxBoards, placeOf, badList}
+use Rattle.boards.specs.Boards.{maxBoards, placeOf, badList}
+use Rattle.boards.proofs.Places.{list-fits}
 use Rattle.session.specs.Opening.{badArea}
 use Rattle.session.specs.Lawful.{badLengths, badLast, badCheck, badSize, badSessionFields, unlawful, Lawful}
-
-pub list-fits : (bs : List Board) (n : ℕ) → badList bs n ≡ false → n ≤ maxBoards
-unfolding badList
-list-fits bs n e =
-    let e1 = neither (ltb n 1) _ e in
-    let e2 = neither (ltb maxBoards n) _ (e1 .1) in
-    ltb-false maxBoards n (e2 .0)
 
 unless : (a b : Bool) → cond a false b ≡ false → a ≡ false → b ≡ false
 unless true b e h = let z : _≡_ {A = ℕ} 0 1 = cc in absurd (omega arith)
@@ -122,10 +116,12 @@ lawful-accepted s l =
     (both-false (badCheck t) _
     (cond-false (t .check .running) _ (λ h.
     both-false (not (ltb (t .check .read) (t .image .announced))) _ (ap not (lt-ltb _ _ (l .check-unread h)))
-    (both-false (not (eqb (t .progress .stored) (t .image .announced))) _ (ap not (eq-eqb _ _ (l .check-stored h))) (ap not (l .check-phase h)))))
+    (both-false (not (eqb (t .progress .stored) (t .image .announced))) _ (ap not (eq-eqb _ _ (l .check-stored h)))
+    (ap not (l .check-phase h)))))
     (cond-unless (idle (t .leg .phase)) _ (λ h.
     both-false (not (ltb (placeOf (s .boards) (s .count) (t .leg .channel)) (s .count))) _ (ap not (lt-ltb _ _ (l .listed h)))
-    (both-false (badSize (t .leg .agreed)) _ (both-false (ltb (t .leg .agreed) minPacket) _ (le-ltb _ _ (l .least-size h)) (le-ltb _ _ (l .most-size h)))
+    (both-false (badSize (t .leg .agreed)) _
+    (both-false (ltb (t .leg .agreed) minPacket) _ (le-ltb _ _ (l .least-size h)) (le-ltb _ _ (l .most-size h)))
     (cond-false (hasImage (t .leg .phase)) _ (λ k. ne-eqb _ _ (nonzero (t .image .announced) (l .some-image k)))))))))))
   where
     nonzero : (n : ℕ) → 0 < n → n ≡ 0 → ⊥

@@ -1,12 +1,11 @@
 -- The laws that belong to no one function, by subject.
-mod Lists
 mod Headers
 pub mod TableFrames
-pub mod Reports
 pub mod Lawfuls
 pub mod Kept
 pub mod EndRequests
 pub mod Unanswered
 pub mod Checks
 pub mod RepeatedFrames
+pub mod LastLengths
 pub mod Openings

@@ -1,6 +1,6 @@
 -- A frame FD that comes again after its packet was taken. Assumes nothing.
 use mathlib.Core.Path.{_≡_, refl, sym, ap, ap₂, _∙_, subst}
-use mathlib.Core.Bool.{Bool, true, false, cond, not}
+use mathlib.Core.Bool.{Bool, true, false, not}
 use mathlib.Core.List.{List, [], _∷_}
 use Prim.Native.Nat.{ℕ, _+_, _<_}
 use native.Mathlib.Omega.{arith}
@@ -9,29 +9,31 @@ use lib.Dec.{ltb, eqb}
 use lib.ListN.{length, getD}
 use Rattle.frames.specs.declared.finished.FinishedFrame.{FinishedFrame}
 use Rattle.sequences.specs.Padding.{padded}
-use Rattle.commands.specs.declared.request.RequestFD.{RequestFD}
+use Rattle.requests.specs.declared.request.RequestFD.{RequestFD}
 use Rattle.commands.specs.declared.table.Header.the-variants.{Right}
-use Rattle.commands.specs.Requests.{requestFD}
-use Rattle.commands.specs.Replies.{maxReply, replyState}
-use Rattle.transfer.specs.declared.board.Board.{Board}
+use Rattle.requests.specs.Requests.{requestFD}
+use Rattle.commands.specs.Limits.{maxReply}
+use Rattle.replies.specs.Replies.{replyState}
+use Rattle.boards.specs.declared.board.Board.{Board}
 use Rattle.transfer.specs.declared.state.Transfer.{Transfer}
 use Rattle.transfer.specs.declared.state.Step.{Step}
 use Rattle.transfer.specs.Phases.{receiving}
 use Rattle.image.specs.Progresses.{lastStored}
 use Rattle.transfer.specs.Transfers.{Effect, unwritten, replied}
-use Rattle.transfer.specs.FD.{stateFD, takes, afterPacket, areaWith, effectFD}
-use Rattle.transfer.specs.Repeats.{TransferAndArea}
+use Rattle.packets.specs.FD.{stateFD, takes, afterPacket, areaWith, effectFD}
+use Rattle.packets.specs.Repeats.{TransferAndArea}
 use Rattle.sequences.proofs.Conditionals.{neither, of-both, of-each}
 use Rattle.transfer.proofs.PhaseLaws.{receiving-busy}
-use Rattle.transfer.proofs.Packets.{taken}
-use Rattle.transfer.proofs.Results.{effect-taken, packet-counted}
-use Rattle.transfer.proofs.Repetitions.{passed-by, repeats-with-00, last-written, again-answered}
+use Rattle.packets.proofs.Packets.{taken}
+use Rattle.packets.proofs.Results.{effect-taken}
+use Rattle.packets.proofs.Repetitions.{passed-by, repeats-with-00, last-written, again-answered}
 use Rattle.session.specs.declared.session.Session.{Session}
 use Rattle.session.specs.declared.answer.Answer.{Answer}
-use Rattle.session.specs.Boards.{pastBoard, placeOf}
+use Rattle.boards.specs.Boards.{pastBoard, placeOf}
 use Rattle.session.specs.Lawful.{unlawful}
 use Rattle.session.specs.Answering.{unchanged, stepped, within, placeFor, effectOf, routed, headerOfFrame, judged, reaction, answered}
-use Rattle.session.specs.RepeatedFrame.{fieldsOf, packetIn, SessionAndArea, answerAt, thenFrame, thenFrames, TakenHere, OtherPackets, AnswersWith, RepeatedFrame}
+use Rattle.session.specs.RepeatedFrame.{fieldsOf, packetIn, SessionAndArea, answerAt, thenFrame, thenFrames, TakenHere}
+use Rattle.session.specs.RepeatedFrame.{OtherPackets, AnswersWith, RepeatedFrame}
 use Rattle.session.proofs.Headers.{by-header}
 use Rattle.session.proofs.Lawfuls.{lawful, lawful-inside}
 use Rattle.session.specs.Transfers.{withTransfer}
@@ -47,7 +49,8 @@ module _ (t : Transfer) (f : FinishedFrame) (is : f .command ≡ 0xFD) where
 -- ---- other packets than the next
 
 -- nothing changes, whatever the session and the area
-fd-passed-by : (x : SessionAndArea) (g : FinishedFrame) → g .command ≡ 0xFD → (fieldsOf g .number ≡ x .session .transfer .leg .next → ⊥) → thenFrame x g ≡ x
+fd-passed-by : (x : SessionAndArea) (g : FinishedFrame) → g .command ≡ 0xFD → (fieldsOf g .number ≡ x .session .transfer .leg .next → ⊥)
+    → thenFrame x g ≡ x
 unfolding reaction judged routed
 fd-passed-by x g is other =
     let s = x .session in
@@ -71,22 +74,27 @@ fd-passed-by x g is other =
 
 fd-all-passed-by : (x : SessionAndArea) (fs : List FinishedFrame) → OtherPackets (x .session .transfer .leg .next) fs → thenFrames x fs ≡ x
 fd-all-passed-by x [] none = refl
-fd-all-passed-by x (f ∷ fs) none = ap (λ (y : SessionAndArea). thenFrames y fs) (fd-passed-by x f (none .0) (none .1 .0)) ∙ fd-all-passed-by x fs (none .1 .1)
+fd-all-passed-by x (f ∷ fs) none =
+    ap (λ (y : SessionAndArea). thenFrames y fs) (fd-passed-by x f (none .0) (none .1 .0)) ∙ fd-all-passed-by x fs (none .1 .1)
 
 -- a reply with state 00 is the transfer's
 state-of : (channel n : ℕ) → padded maxReply (replyState channel n) ≡ padded maxReply (replyState channel 0) → n ≡ 0
 unfolding replyState
 state-of channel n e = ap (λ (d : List ℕ). getD d 1 0) e
 
-replies-state : (t : Transfer) (r : RequestFD) (p area : List ℕ) → effectFD t r p area .gives .reply ≡ padded maxReply (replyState (r .channel) (stateFD t r p area))
+replies-state : (t : Transfer) (r : RequestFD) (p area : List ℕ)
+    → effectFD t r p area .gives .reply ≡ padded maxReply (replyState (r .channel) (stateFD t r p area))
 unfolding effectFD
 replies-state t r p area =
-    of-both (λ (x : Effect Step). x .gives .reply ≡ padded maxReply (replyState (r .channel) (stateFD t r p area))) (takes t r p area) _ _ refl refl
+    of-both (λ (x : Effect Step). x .gives .reply ≡ padded maxReply (replyState (r .channel) (stateFD t r p area)))
+    (takes t r p area) _ _ refl refl
 
-with-00 : (s : Session) (g : FinishedFrame) (area : List ℕ) → g .command ≡ 0xFD → AnswersWith (answered s g area) (fieldsOf g) 0 → stateFD (s .transfer) (fieldsOf g) (packetIn g) area ≡ 0
+with-00 : (s : Session) (g : FinishedFrame) (area : List ℕ) → g .command ≡ 0xFD → AnswersWith (answered s g area) (fieldsOf g) 0
+    → stateFD (s .transfer) (fieldsOf g) (packetIn g) area ≡ 0
 unfolding reaction judged routed
 with-00 s g area is =
-    let P : Effect Answer → Type 0 = λ e. AnswersWith (e .gives) (fieldsOf g) 0 → stateFD (s .transfer) (fieldsOf g) (packetIn g) area ≡ 0 in
+    let P : Effect Answer → Type 0 = λ e. AnswersWith (e .gives) (fieldsOf g) 0
+    → stateFD (s .transfer) (fieldsOf g) (packetIn g) area ≡ 0 in
     let b = getD (s .boards) (placeFor s g) pastBoard in
     of-both P (unlawful s) _ _ (λ w. let z = w .0 in absurd (omega arith))
     (of-both P (not (eqb (length area) (s .opened))) _ _ (λ w. let z = w .0 in absurd (omega arith))
@@ -94,19 +102,24 @@ with-00 s g area is =
     (of-each P (eqb (g .command) 0xF9) _ _ (λ e. let z = eqb-true (g .command) 0xF9 e in absurd (omega arith))
     (λ _. of-both P (ltb (placeFor s g) (s .count)) _ _
     (of-both P (s .transfer .check .running) _ _ (λ w. let z = w .0 in absurd (omega arith))
-    (λ w. state-of (fieldsOf g .channel) _ (sym (replies-state (s .transfer) (fieldsOf g) (packetIn g) area) ∙ ap (λ (u : Effect Step). u .gives .reply) (sym (fd-effect (s .transfer) g is b area)) ∙ w .1)))
+    (λ w. state-of (fieldsOf g .channel) _
+    (sym (replies-state (s .transfer) (fieldsOf g) (packetIn g) area)
+    ∙ ap (λ (u : Effect Step). u .gives .reply) (sym (fd-effect (s .transfer) g is b area)) ∙ w .1)))
     (λ w. let z = w .0 in absurd (omega arith))))))
 
 -- ---- the frame itself
 
 -- a listed frame FD past 9, 6, 2 and 3
-module _ (s : Session) (f : FinishedFrame) (area : List ℕ) (ok : unlawful s ≡ false) (size : length area ≡ s .opened) (listed : placeFor s f < s .count)
+module _ (s : Session) (f : FinishedFrame) (area : List ℕ) (ok : unlawful s ≡ false) (size : length area ≡ s .opened)
+    (listed : placeFor s f < s .count)
     (still : s .transfer .check .running ≡ false) where
-  fd-reaction : f .command ≡ 0xFD → headerOfFrame f ≡ Right → reaction s f area ≡ within s (effectFD (s .transfer) (fieldsOf f) (packetIn f) area)
+  fd-reaction : f .command ≡ 0xFD → headerOfFrame f ≡ Right
+      → reaction s f area ≡ within s (effectFD (s .transfer) (fieldsOf f) (packetIn f) area)
   unfolding reaction judged routed effectOf
   fd-reaction is header = rw (ok, eq-eqb (length area) (s .opened) size, header, lt-ltb _ _ listed, still) (rw is refl)
 
-module _ (x : SessionAndArea) (f : FinishedFrame) (ok : unlawful (x .session) ≡ false) (size : length (x .area) ≡ x .session .opened) (h : TakenHere x f) where
+module _ (x : SessionAndArea) (f : FinishedFrame) (ok : unlawful (x .session) ≡ false) (size : length (x .area) ≡ x .session .opened)
+    (h : TakenHere x f) where
   abbrev s : Session
   s = x .session
 
@@ -129,7 +142,8 @@ module _ (x : SessionAndArea) (f : FinishedFrame) (ok : unlawful (x .session) �
   listed-here =
       let n = neither (not (receiving (s .transfer .leg .phase))) _ (taken (s .transfer) r p (x .area) (h .taken) .here) in
       let own = lawful s ok .listed (receiving-busy (s .transfer .leg .phase) (not-false _ (n .0))) in
-      let place : placeFor s f ≡ placeOf (s .boards) (s .count) (s .transfer .leg .channel) = ap (placeOf (s .boards) (s .count)) (eqb-true _ _ (not-false _ (n .1))) in
+      let place : placeFor s f ≡ placeOf (s .boards) (s .count) (s .transfer .leg .channel) =
+      ap (placeOf (s .boards) (s .count)) (eqb-true _ _ (not-false _ (n .1))) in
       omega arith
 
   -- nor does a check run, which would have everything stored
@@ -158,7 +172,8 @@ module _ (x : SessionAndArea) (f : FinishedFrame) (ok : unlawful (x .session) �
 
   again : answered next f written ≡ stepped next (replied (next .transfer) (replyState (r .channel) 0))
   again =
-      ap (λ (e : Effect Answer). e .gives) (fd-reaction next f written next-lawful written-fits listed-here none-runs (h .command) (h .header))
+      ap (λ (e : Effect Answer). e .gives)
+      (fd-reaction next f written next-lawful written-fits listed-here none-runs (h .command) (h .header))
       ∙ ap (stepped next) (again-answered (s .transfer) r p (x .area) (lawful-inside s (length (x .area)) ok size) (h .taken))
 
 pub repeated-frame : RepeatedFrame
@@ -167,12 +182,15 @@ repeated-frame x f fs ok size h none =
     let t = x .session .transfer in
     let is = left x f ok size h in
     let came = taken t (fieldsOf f) (packetIn f) (x .area) (h .taken) in
-    let next-is : y .session .transfer .leg .next ≡ fieldsOf f .number + 1 = ap (λ (z : SessionAndArea). z .session .transfer .leg .next) is ∙ ap (λ (n : ℕ). n + 1) (sym (came .number)) in
+    let next-is : y .session .transfer .leg .next ≡ fieldsOf f .number + 1 =
+    ap (λ (z : SessionAndArea). z .session .transfer .leg .next) is ∙ ap (λ (n : ℕ). n + 1) (sym (came .number)) in
     let still = fd-all-passed-by y fs (subst (λ (n : ℕ). OtherPackets n fs) (sym next-is) none) in
     let bytes-are : lastStored (y .session .transfer .progress) (y .area) ≡ packetIn f =
     ap (λ (z : SessionAndArea). lastStored (z .session .transfer .progress) (z .area)) is
-    ∙ sym (last-written t (fieldsOf f) (packetIn f) (x .area) (lawful-inside (x .session) (length (x .area)) ok size) (h .taken) .same-bytes) in
-    let same : answerAt (thenFrames y fs) f ≡ stepped (next x f ok size h) (replied (next x f ok size h .transfer) (replyState (fieldsOf f .channel) 0)) =
+    ∙ sym (last-written t (fieldsOf f) (packetIn f) (x .area) (lawful-inside (x .session) (length (x .area)) ok size)
+    (h .taken) .same-bytes) in
+    let same : answerAt (thenFrames y fs) f ≡ stepped (next x f ok size h)
+    (replied (next x f ok size h .transfer) (replyState (fieldsOf f .channel) 0)) =
     ap (λ (z : SessionAndArea). answerAt z f) (still ∙ is) ∙ again x f ok size h in
     record {
       unmoved = still;
@@ -181,5 +199,6 @@ repeated-frame x f fs ok size h none =
       unchanged = ap (λ (z : SessionAndArea). thenFrame z f) still ∙ fd-passed-by y f (h .command) (λ n. omega arith);
       other-bytes = λ g fd other differs w.
           let z = with-00 (y .session) g (y .area) fd (subst (λ (l : SessionAndArea). AnswersWith (answerAt l g) (fieldsOf g) 0) still w) in
-          differs (repeats-with-00 (record { transfer = y .session .transfer; area = y .area }) (record { request = fieldsOf g; bytes = packetIn g }) (λ n. other (n ∙ next-is)) z .last .same-bytes ∙ bytes-are);
+          differs (repeats-with-00 (record { transfer = y .session .transfer; area = y .area })
+          (record { request = fieldsOf g; bytes = packetIn g }) (λ n. other (n ∙ next-is)) z .last .same-bytes ∙ bytes-are);
     }

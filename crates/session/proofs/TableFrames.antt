@@ -13,7 +13,7 @@ use Rattle.commands.specs.declared.table.Header.{Header}
 use Rattle.commands.specs.declared.table.Header.the-variants.{Unlisted, Wrong, Right}
 use Rattle.sequences.specs.Search.{find}
 use Rattle.commands.specs.Table.{table, rowAt, placeInTable, headerOf}
-use Rattle.commands.specs.Replies.{hasReply}
+use Rattle.replies.specs.Replies.{hasReply}
 use Rattle.transfer.specs.Transfers.{Effect, unwritten}
 use Rattle.session.specs.declared.session.Session.{Session}
 use Rattle.session.specs.declared.answer.Answer.{Answer}
@@ -24,14 +24,23 @@ flip : (m n : ℕ) → eqb m n ≡ false → eqb n m ≡ false
 flip m n e = ne-eqb n m (λ z. eqb-false m n e (sym z))
 
 -- one that is none of the others is FE
-pub is-fe : (f : FinishedFrame) → headerOfFrame f ≡ Right → eqb (f .command) 0xF9 ≡ false → eqb (f .command) 0xFA ≡ false → eqb (f .command) 0xFB ≡ false
+pub is-fe : (f : FinishedFrame) → headerOfFrame f ≡ Right → eqb (f .command) 0xF9 ≡ false → eqb (f .command) 0xFA ≡ false
+    → eqb (f .command) 0xFB ≡ false
     → eqb (f .command) 0xFC ≡ false → eqb (f .command) 0xFD ≡ false → f .command ≡ 0xFE
 unfolding headerOf placeInTable rowAt table find
 is-fe f h e9 ea eb ec ed = go (eqb (f .command) 0xFE) refl
   where
     go : (b : Bool) → eqb (f .command) 0xFE ≡ b → f .command ≡ 0xFE
     go true e = eqb-true _ _ e
-    go false e = absurd (let c = f .command in let no = simp (flip c 0xF9 e9, flip c 0xFA ea, flip c 0xFB eb, flip c 0xFC ec, flip c 0xFD ed, flip c 0xFE e) at h in let z : _≡_ {A = ℕ} 0 1 = cc in omega arith)
+    go false e =
+        absurd (let c = f .command in let no = simp (
+          flip c 0xF9 e9,
+          flip c 0xFA ea,
+          flip c 0xFB eb,
+          flip c 0xFC ec,
+          flip c 0xFD ed,
+          flip c 0xFE e,
+        ) at h in let z : _≡_ {A = ℕ} 0 1 = cc in omega arith)
 
 -- each but F9 has a reply
 has-reply : (f : FinishedFrame) → headerOfFrame f ≡ Right → eqb (f .command) 0xF9 ≡ false → hasReply (f .command) ≡ true
@@ -41,7 +50,8 @@ has-reply f h e9 = go (eqb (f .command) 0xFA) (eqb (f .command) 0xFB) (eqb (f .c
     of : (c : ℕ) → eqb (f .command) c ≡ true → hasReply (f .command) ≡ hasReply c
     of c e = ap hasReply (eqb-true (f .command) c e)
 
-    go : (a b c d : Bool) → eqb (f .command) 0xFA ≡ a → eqb (f .command) 0xFB ≡ b → eqb (f .command) 0xFC ≡ c → eqb (f .command) 0xFD ≡ d → hasReply (f .command) ≡ true
+    go : (a b c d : Bool) → eqb (f .command) 0xFA ≡ a → eqb (f .command) 0xFB ≡ b → eqb (f .command) 0xFC ≡ c → eqb (f .command) 0xFD ≡ d
+        → hasReply (f .command) ≡ true
     go true b c d ea eb ec ed = of 0xFA ea
     go false true c d ea eb ec ed = of 0xFB eb
     go false false true d ea eb ec ed = of 0xFC ec
@@ -57,7 +67,8 @@ module _ (s : Session) (f : FinishedFrame) (area : List ℕ) where
   silent n e = let z : _≡_ {A = ℕ} 0 1 = cc in absurd (omega arith)
 
   refused : (x : Effect Answer) → Listed x
-      → Listed (cond (unlawful s) (unwritten (unchanged 9 s) area) (cond (not (eqb (length area) (s .opened))) (unwritten (unchanged 6 s) area) x))
+      → Listed (cond (unlawful s) (unwritten (unchanged 9 s) area)
+      (cond (not (eqb (length area) (s .opened))) (unwritten (unchanged 6 s) area) x))
   refused x p = of-both Listed (unlawful s) _ _ (silent 9) (of-both Listed (not (eqb (length area) (s .opened))) _ _ (silent 6) p)
 
   pub replied-command : Listed (reaction s f area)

@@ -4,37 +4,38 @@ use mathlib.Core.Bool.{Bool, true, false, cond, not, _||_}
 use mathlib.Core.List.{List}
 use Prim.Native.Nat.{ℕ}
 use native.Mathlib.Omega.{arith}
-use borrow.Author.Tests.{eqb-true, eq-eqb}
+use borrow.Author.Tests.{eq-eqb}
 use lib.Dec.{ltb, eqb}
 use lib.ListN.{length, getD}
 use Rattle.frames.specs.declared.finished.FinishedFrame.{FinishedFrame}
 use Rattle.sequences.specs.Padding.{zeros}
-use Rattle.commands.specs.Requests.{channelOf, requestFA, requestFB, requestFC, requestFD, packetOf}
-use Rattle.commands.specs.Replies.{maxReply}
-use Rattle.transfer.specs.declared.board.Board.{Board}
+use Rattle.requests.specs.Requests.{channelOf, requestFA, requestFB, requestFC, requestFD, packetOf}
+use Rattle.commands.specs.Limits.{maxReply}
+use Rattle.boards.specs.declared.board.Board.{Board}
 use Rattle.transfer.specs.declared.state.Transfer.{Transfer}
 use Rattle.transfer.specs.declared.state.Step.{Step}
 use Rattle.transfer.specs.Phases.{idle, toldOrReceiving, receivingOrDone}
 use Rattle.transfer.specs.Transfers.{Effect, unwritten, unanswered, otherChannel}
-use Rattle.transfer.specs.FA.{refusedFA, answerFA}
-use Rattle.transfer.specs.FB.{stateFB, grantFB, answerFB}
-use Rattle.transfer.specs.FC.{answerFC}
-use Rattle.transfer.specs.FD.{takes, effectFD, answerFD}
-use Rattle.transfer.specs.FE.{answerFE}
+use Rattle.agreement.specs.FA.{refusedFA, answerFA}
+use Rattle.agreement.specs.FB.{stateFB, grantFB, answerFB}
+use Rattle.agreement.specs.FC.{answerFC}
+use Rattle.packets.specs.FD.{takes, effectFD, answerFD}
+use Rattle.ending.specs.FE.{answerFE}
 use Rattle.sequences.proofs.Conditionals.{of-both, of-each}
 use Rattle.session.specs.declared.session.Session.{Session}
 use Rattle.session.specs.declared.answer.Answer.{Answer}
 use Rattle.commands.specs.Outcomes.{accepted}
-use Rattle.session.specs.Boards.{pastBoard}
+use Rattle.boards.specs.Boards.{pastBoard}
 use Rattle.session.specs.Lawful.{unlawful}
-use Rattle.session.specs.Answering.{unchanged, stepped, within, placeFor, effectOf, routed, headerOfFrame, judged, reaction, answered}
+use Rattle.session.specs.Answering.{unchanged, within, placeFor, effectOf, routed, headerOfFrame, judged, reaction, answered}
 use Rattle.session.proofs.Headers.{by-header}
 
 -- a step without an answer leaves the transfer and has no reply
 abbrev Still : Transfer → Step → Type 0
 Still t x = x .answered ≡ false → x ≡ unanswered t
 
-answers : {t : Transfer} {replies : Bool} (u : Transfer) (d : List ℕ) → Still t (record { answered = true; replies = replies; transfer = u; reply = d })
+answers : {t : Transfer} {replies : Bool} (u : Transfer) (d : List ℕ)
+    → Still t (record { answered = true; replies = replies; transfer = u; reply = d })
 answers u d e = let z : _≡_ {A = ℕ} 0 1 = cc in absurd (omega arith)
 
 module _ (t : Transfer) where
@@ -44,7 +45,9 @@ module _ (t : Transfer) where
 
   fb-still : (b : Board) (r : _) (area : List ℕ) → Still t (answerFB t b r area)
   unfolding answerFB grantFB
-  fb-still b r area = of-both (Still t) (idle (t .leg .phase) || otherChannel t (r .channel)) _ _ (λ _. refl) (of-both (Still t) (eqb (stateFB b r (length area)) 0) _ _ (answers _ _) (answers _ _))
+  fb-still b r area =
+      of-both (Still t) (idle (t .leg .phase) || otherChannel t (r .channel)) _ _ (λ _. refl)
+      (of-both (Still t) (eqb (stateFB b r (length area)) 0) _ _ (answers _ _) (answers _ _))
 
   fc-still : (r : _) → Still t (answerFC t r)
   unfolding answerFC
@@ -77,7 +80,8 @@ module _ (t : Transfer) where
       (of-both P (eqb (f .command) 0xFB) _ _ (λ e. (fb-still b (requestFB (f .bytes)) area e, refl))
       (of-both P (eqb (f .command) 0xFC) _ _ (λ e. (fc-still (requestFC (f .bytes)) e, refl))
       (of-both P (eqb (f .command) 0xFD) _ _
-      (λ e. let y = fd-answered (requestFD (f .bytes)) (packetOf (f .length) (f .bytes)) area in absurd (let z : _≡_ {A = ℕ} 0 1 = cc in omega arith))
+      (λ e. let y = fd-answered (requestFD (f .bytes)) (packetOf (f .length) (f .bytes)) area in
+      absurd (let z : _≡_ {A = ℕ} 0 1 = cc in omega arith))
       (λ e. (fe-still (channelOf (f .bytes)) e, refl)))))
 
 -- the claim, of an answer and the area it leaves
@@ -102,7 +106,8 @@ stepped-quiet s f b area z = go (effectOf (s .transfer) f b area .gives .answere
     go false e =
         let still = step-still (s .transfer) f b area e in
         record {
-          session = ap (λ (x : Step). record { boards = s .boards; count = s .count; opened = s .opened; transfer = x .transfer }) (still .0);
+          session = ap (λ (x : Step). record { boards = s .boards; count = s .count; opened = s .opened; transfer = x .transfer })
+              (still .0);
           no-reply = ap (λ (x : Step). x .replies) (still .0);
           no-data = ap (λ (x : Step). x .reply) (still .0);
           same-area = still .1;
@@ -127,16 +132,20 @@ nothing-changed s f area =
 abbrev pub NoRefusal : ℕ → Type 0
 NoRefusal n = (n ≡ 5 → ⊥) × ((n ≡ 6 → ⊥) × (n ≡ 9 → ⊥))
 
-pub answer-accepts : (s : Session) (f : FinishedFrame) (area : List ℕ) → unlawful s ≡ false → length area ≡ s .opened → NoRefusal (answered s f area .outcome)
+pub answer-accepts : (s : Session) (f : FinishedFrame) (area : List ℕ) → unlawful s ≡ false → length area ≡ s .opened
+    → NoRefusal (answered s f area .outcome)
 unfolding reaction judged routed
 answer-accepts s f area e size =
     let P : Effect Answer → Type 0 = λ x. NoRefusal (x .gives .outcome) in
     let no : (b : Bool) → b ≡ false → b ≡ true → ⊥ = λ b f t. let z : _≡_ {A = ℕ} 0 1 = cc in omega arith in
     of-each P (unlawful s) _ _ (λ x. absurd (no (unlawful s) e x))
-    (λ _. of-each P (not (eqb (length area) (s .opened))) _ _ (λ x. absurd (no (not (eqb (length area) (s .opened))) (ap not (eq-eqb (length area) (s .opened) size)) x))
-    (λ _. by-header P (headerOfFrame f) _ _ _ (λ z. omega arith, (λ z. omega arith, λ z. omega arith)) (λ z. omega arith, (λ z. omega arith, λ z. omega arith))
+    (λ _. of-each P (not (eqb (length area) (s .opened))) _ _
+    (λ x. absurd (no (not (eqb (length area) (s .opened))) (ap not (eq-eqb (length area) (s .opened) size)) x))
+    (λ _. by-header P (headerOfFrame f) _ _ _ (λ z. omega arith, (λ z. omega arith, λ z. omega arith))
+    (λ z. omega arith, (λ z. omega arith, λ z. omega arith))
     (of-both P (eqb (f .command) 0xF9) _ _ (λ z. omega arith, (λ z. omega arith, λ z. omega arith))
     (of-both P (ltb (placeFor s f) (s .count)) _ _
     (of-both P (s .transfer .check .running) _ _ (λ z. omega arith, (λ z. omega arith, λ z. omega arith))
-    (of-both NoRefusal (effectOf (s .transfer) f (getD (s .boards) (placeFor s f) pastBoard) area .gives .answered) 0 10 (λ z. omega arith, (λ z. omega arith, λ z. omega arith)) (λ z. omega arith, (λ z. omega arith, λ z. omega arith))))
+    (of-both NoRefusal (effectOf (s .transfer) f (getD (s .boards) (placeFor s f) pastBoard) area .gives .answered) 0 10
+    (λ z. omega arith, (λ z. omega arith, λ z. omega arith)) (λ z. omega arith, (λ z. omega arith, λ z. omega arith))))
     (λ z. omega arith, (λ z. omega arith, λ z. omega arith))))))

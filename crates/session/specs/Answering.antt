@@ -10,21 +10,21 @@ use Rattle.sequences.specs.Padding.{zeros}
 use Rattle.commands.specs.declared.table.Header.{Header}
 use Rattle.commands.specs.declared.table.Header.the-variants.{Unlisted, Wrong, Right}
 use Rattle.commands.specs.Table.{headerOf}
-use Rattle.commands.specs.Requests.{channelOf, requestFA, requestFB, requestFC, requestFD, packetOf}
-use Rattle.commands.specs.Replies.{maxReply}
-use Rattle.transfer.specs.declared.board.Board.{Board}
+use Rattle.requests.specs.Requests.{channelOf, requestFA, requestFB, requestFC, requestFD, packetOf}
+use Rattle.commands.specs.Limits.{maxReply}
+use Rattle.boards.specs.declared.board.Board.{Board}
 use Rattle.transfer.specs.declared.state.Transfer.{Transfer}
 use Rattle.transfer.specs.declared.state.Step.{Step}
 use Rattle.transfer.specs.Transfers.{Effect, unwritten}
-use Rattle.transfer.specs.FA.{answerFA}
-use Rattle.transfer.specs.FB.{answerFB}
-use Rattle.transfer.specs.FC.{answerFC}
-use Rattle.transfer.specs.FD.{effectFD}
-use Rattle.transfer.specs.FE.{answerFE}
+use Rattle.agreement.specs.FA.{answerFA}
+use Rattle.agreement.specs.FB.{answerFB}
+use Rattle.agreement.specs.FC.{answerFC}
+use Rattle.packets.specs.FD.{effectFD}
+use Rattle.ending.specs.FE.{answerFE}
 use Rattle.session.specs.declared.session.Session.{Session}
 use Rattle.session.specs.declared.answer.Answer.{Answer}
 use Rattle.commands.specs.Outcomes.{accepted, unlistedCommand, wrongHeader, unlistedChannel, otherArea, rulesBroken, wrongPhase, checkRuns}
-use Rattle.session.specs.Boards.{pastBoard, placeOf}
+use Rattle.boards.specs.Boards.{pastBoard, placeOf}
 use Rattle.session.specs.Transfers.{transferOn, withTransfer}
 use Rattle.session.specs.Lawful.{unlawful}
 

@@ -7,11 +7,11 @@ use Prim.Native.Nat.{ℕ}
 use lib.Dec.{eqb}
 use lib.ListN.{length}
 use Rattle.sequences.specs.Padding.{zeros}
-use Rattle.commands.specs.Replies.{maxReply}
+use Rattle.commands.specs.Limits.{maxReply}
 use Rattle.image.specs.declared.check.Verdict.{Verdict}
 use Rattle.image.specs.declared.check.Verdict.the-variants.{Unfinished, Right, Wrong}
-use Rattle.transfer.specs.declared.check.CheckStep.{CheckStep}
-use Rattle.transfer.specs.Portions.{checkStep}
+use Rattle.ending.specs.declared.check.CheckStep.{CheckStep}
+use Rattle.ending.specs.Portions.{checkStep}
 use Rattle.session.specs.declared.session.Session.{Session}
 use Rattle.session.specs.declared.check.Checked.{Checked}
 use Rattle.commands.specs.Outcomes.{accepted, otherArea, rulesBroken, noCheckRuns, unfinished}

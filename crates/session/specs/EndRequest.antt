@@ -11,13 +11,15 @@ use lib.ListN.{length, take}
 use Rattle.crc.specs.Crc.{checksum, crc32}
 use Rattle.frames.specs.declared.finished.FinishedFrame.{FinishedFrame}
 use Rattle.sequences.specs.Padding.{padded}
-use Rattle.commands.specs.Requests.{channelOf}
-use Rattle.commands.specs.Replies.{maxReply, replyState}
+use Rattle.requests.specs.Requests.{channelOf}
+use Rattle.commands.specs.Limits.{maxReply}
+use Rattle.replies.specs.Replies.{replyState}
 use Rattle.transfer.specs.declared.state.Transfer.{Transfer}
 use Rattle.transfer.specs.Phases.{receivingOrDone}
 use Rattle.session.specs.declared.session.Session.{Session}
 use Rattle.session.specs.declared.answer.Answer.{Answer}
 use Rattle.commands.specs.Outcomes.{accepted}
+use Rattle.commands.specs.States.{granted}
 use Rattle.session.specs.Transfers.{transferOn}
 use Rattle.session.specs.Lawful.{unlawful}
 use Rattle.session.specs.OneGo.{inOneGo}
@@ -40,10 +42,11 @@ pub record Complete (t : Transfer) (channel : ℕ) (area : List ℕ) : Type 0 wh
 pub record SuccessIn (channel : ℕ) (a : Answer) : Type 0 where
   pub answered : a .outcome ≡ accepted
   pub replies : a .replies ≡ true
-  pub reply : a .reply ≡ padded maxReply (replyState channel 0)
+  pub reply : a .reply ≡ padded maxReply (replyState channel granted)
 
 -- the claim: premises on the input alone
 abbrev pub EndRequest : Type 0
 EndRequest =
-    (s : Session) (f : FinishedFrame) (channel : ℕ) (area : List ℕ) → unlawful s ≡ false → length area ≡ s .opened → transferOn s channel .check .running ≡ false
+    (s : Session) (f : FinishedFrame) (channel : ℕ) (area : List ℕ) → unlawful s ≡ false → length area ≡ s .opened
+    → transferOn s channel .check .running ≡ false
     → IsEndRequest f channel → SuccessIn channel (inOneGo s f area) ↔ Complete (transferOn s channel) channel area

@@ -9,11 +9,11 @@ use mathlib.Core.List.{List}
 use Prim.Native.Nat.{ℕ, _≤_, _<_}
 use lib.Dec.{ltb, eqb}
 use Rattle.commands.specs.Limits.{minPacket, maxPacket, maxArea, maxNext}
-use Rattle.transfer.specs.declared.board.Board.{Board}
+use Rattle.boards.specs.declared.board.Board.{Board}
 use Rattle.transfer.specs.declared.state.Transfer.{Transfer}
 use Rattle.transfer.specs.Phases.{idle, hasImage, receivingOrDone}
 use Rattle.session.specs.declared.session.Session.{Session}
-use Rattle.session.specs.Boards.{placeOf, badList}
+use Rattle.boards.specs.Boards.{placeOf, badList}
 use Rattle.session.specs.Transfers.{ownTransfer}
 use Rattle.session.specs.Opening.{badArea}
 
@@ -29,7 +29,8 @@ badLast t = ltb maxPacket (t .progress .last) || ltb (t .progress .stored) (t .p
 abbrev pub badCheck : Transfer → Bool
 badCheck t =
     cond (t .check .running)
-    (not (ltb (t .check .read) (t .image .announced)) || (not (eqb (t .progress .stored) (t .image .announced)) || not (receivingOrDone (t .leg .phase))))
+    (not (ltb (t .check .read) (t .image .announced)) ||
+    (not (eqb (t .progress .stored) (t .image .announced)) || not (receivingOrDone (t .leg .phase))))
     false
 
 abbrev pub badSize : ℕ → Bool
@@ -39,7 +40,8 @@ badSize agreed = ltb agreed minPacket || ltb maxPacket agreed
 abbrev pub badSessionFields : Transfer → List Board → ℕ → Bool
 badSessionFields t bs n =
     cond (idle (t .leg .phase)) false
-    (not (ltb (placeOf bs n (t .leg .channel)) n) || (badSize (t .leg .agreed) || cond (hasImage (t .leg .phase)) (eqb (t .image .announced) 0) false))
+    (not (ltb (placeOf bs n (t .leg .channel)) n) ||
+    (badSize (t .leg .agreed) || cond (hasImage (t .leg .phase)) (eqb (t .image .announced) 0) false))
 
 unfoldable pub unlawful : Session → Bool
 unlawful s =

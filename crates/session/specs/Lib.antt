@@ -1,6 +1,5 @@
 -- The definitions that the contracts of `session` cite: 01, "The record and the board list", "How the session answers" and
 -- "Outcome numbers"; document 02, K2 and K5.
-pub mod Boards
 pub mod Transfers
 pub mod Opening
 pub mod Lawful
@@ -9,4 +8,4 @@ pub mod Checking
 pub mod OneGo
 pub mod EndRequest
 pub mod RepeatedFrame
-pub mod Report
+pub mod LastLength

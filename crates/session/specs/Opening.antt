@@ -5,12 +5,12 @@ use Prim.Native.Nat.{ℕ}
 use lib.Dec.{ltb}
 use lib.ListN.{replicate}
 use Rattle.commands.specs.Limits.{maxArea}
-use Rattle.transfer.specs.declared.board.Board.{Board}
+use Rattle.boards.specs.declared.board.Board.{Board}
 use Rattle.transfer.specs.Transfers.{noTransfer}
 use Rattle.session.specs.declared.session.Session.{Session}
 use Rattle.session.specs.declared.session.Opening.{Opening}
 use Rattle.commands.specs.Outcomes.{accepted, badAreaLength, badBoards}
-use Rattle.session.specs.Boards.{maxBoards, noBoard, badList, listOf}
+use Rattle.boards.specs.Boards.{maxBoards, noBoard, badList, listOf}
 
 -- "the area's length, 1 to 1,048,576"
 abbrev pub badArea : ℕ → Bool

@@ -8,14 +8,16 @@ use Prim.Native.Nat.{ℕ, _+_}
 use lib.ListN.{length}
 use Rattle.frames.specs.declared.finished.FinishedFrame.{FinishedFrame}
 use Rattle.sequences.specs.Padding.{padded}
-use Rattle.commands.specs.declared.request.RequestFD.{RequestFD}
+use Rattle.requests.specs.declared.request.RequestFD.{RequestFD}
 use Rattle.commands.specs.declared.table.Header.the-variants.{Right}
-use Rattle.commands.specs.Requests.{requestFD, packetOf}
-use Rattle.commands.specs.Replies.{maxReply, replyState}
-use Rattle.transfer.specs.FD.{takes}
+use Rattle.requests.specs.Requests.{requestFD, packetOf}
+use Rattle.commands.specs.Limits.{maxReply}
+use Rattle.replies.specs.Replies.{replyState}
+use Rattle.packets.specs.FD.{takes}
 use Rattle.session.specs.declared.session.Session.{Session}
 use Rattle.session.specs.declared.answer.Answer.{Answer}
 use Rattle.commands.specs.Outcomes.{accepted}
+use Rattle.commands.specs.States.{granted}
 use Rattle.session.specs.Transfers.{transferOn}
 use Rattle.session.specs.Lawful.{unlawful}
 use Rattle.session.specs.Answering.{headerOfFrame, answered, areaAfter}
@@ -60,13 +62,15 @@ AnswersWith a r state = (a .outcome ≡ accepted) × (a .reply ≡ padded maxRep
 -- what holds once frame f was taken at x and the frames fs came after it
 pub record FrameRepeated (x : SessionAndArea) (f : FinishedFrame) (fs : List FinishedFrame) : Type 0 where
   pub unmoved : thenFrames (thenFrame x f) fs ≡ thenFrame x f
-  pub answered-00 : AnswersWith (answerAt (thenFrames (thenFrame x f) fs) f) (fieldsOf f) 0
+  pub answered-00 : AnswersWith (answerAt (thenFrames (thenFrame x f) fs) f) (fieldsOf f) granted
   pub replies : answerAt (thenFrames (thenFrame x f) fs) f .replies ≡ true
   pub unchanged : thenFrame (thenFrames (thenFrame x f) fs) f ≡ thenFrame x f
-  pub other-bytes : (g : FinishedFrame) → g .command ≡ 0xFD → (fieldsOf g .number ≡ fieldsOf f .number + 1 → ⊥) → (packetIn g ≡ packetIn f → ⊥)
-      → AnswersWith (answerAt (thenFrames (thenFrame x f) fs) g) (fieldsOf g) 0 → ⊥
+  pub other-bytes : (g : FinishedFrame) → g .command ≡ 0xFD → (fieldsOf g .number ≡ fieldsOf f .number + 1 → ⊥)
+      → (packetIn g ≡ packetIn f → ⊥)
+      → AnswersWith (answerAt (thenFrames (thenFrame x f) fs) g) (fieldsOf g) granted → ⊥
 
 abbrev pub RepeatedFrame : Type 0
 RepeatedFrame =
-    (x : SessionAndArea) (f : FinishedFrame) (fs : List FinishedFrame) → unlawful (x .session) ≡ false → length (x .area) ≡ x .session .opened
+    (x : SessionAndArea) (f : FinishedFrame) (fs : List FinishedFrame) → unlawful (x .session) ≡ false
+    → length (x .area) ≡ x .session .opened
     → TakenHere x f → OtherPackets (fieldsOf f .number + 1) fs → FrameRepeated x f fs

@@ -1,5 +1,5 @@
--- Which transfer is whose. A session has one, whichever channel asks; a transfer for each board will have this place to change, and no
--- other definition or claim reaches past it. Assumes nothing.
+-- Which transfer is whose. A session has one, whichever channel asks; opening makes it, and answers, outcome 9 and the claims reach it
+-- through these definitions. Assumes nothing.
 use Prim.Native.Nat.{ℕ}
 use Rattle.transfer.specs.declared.state.Transfer.{Transfer}
 use Rattle.session.specs.declared.session.Session.{Session}

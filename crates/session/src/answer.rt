@@ -1,21 +1,26 @@
 // What a finished frame is answered.
-use crate::list;
 use crate::session::Session;
+use agreement::fa;
+use agreement::fb;
+use agreement::fc;
+use boards::board::Board;
+use boards::list;
+use commands::limits::MAX_REPLY;
 use commands::outcome;
-use commands::reply;
-use commands::reply::MAX_REPLY;
-use commands::request;
 use commands::table;
 use commands::table::Header;
+use ending::fe;
 use frames::finished::FinishedFrame;
-use transfer::board::Board;
+use packets::fd;
+use replies::reply;
+use requests::request;
 use transfer::state::Step;
 use transfer::state::Transfer;
 ghost use mathlib.Core.Path.{_≡_};
 ghost use mathlib.Core.Bool.{false};
 ghost use Prim.Native.Nat.{_≤_, _<_};
 ghost use lib.ListN.{length};
-ghost use Rattle.session.specs.Boards.{maxBoards};
+ghost use Rattle.boards.specs.Boards.{maxBoards};
 ghost use Rattle.session.specs.Lawful.{unlawful};
 ghost use Rattle.session.specs.Answering.{unchanged, stepped, placeFor, effectOf, routed, judged, reaction};
 
@@ -30,7 +35,8 @@ pub struct Answer {
 impl Session {
     // The answer to a finished frame. An unlawful session, or an area of another length than the opened one, is refused.
     pub fn answer(self, f: FinishedFrame, area: &mut [u8]) -> Answer
-        ensures { λ r. ⌜ (r ≡ reaction self f (now (area .entry)) .gives) × (now (area .exit) ≡ reaction self f (now (area .entry)) .area) ⌝ }
+        ensures { λ r. ⌜ (r ≡ reaction self f (now (area .entry)) .gives) ×
+            (now (area .exit) ≡ reaction self f (now (area .entry)) .area) ⌝ }
     {
         if self.unlawful() {
             return Answer::unchanged(outcome::RULES_BROKEN, self);
@@ -126,21 +132,22 @@ impl Answer {
 
 // The transfer's answer to a frame of the table for its board.
 fn respond(t: Transfer, f: FinishedFrame, board: Board, area: &mut [u8]) -> Step
-    ensures { λ r. ⌜ (r ≡ effectOf t f board (now (area .entry)) .gives) × (now (area .exit) ≡ effectOf t f board (now (area .entry)) .area) ⌝ }
+    ensures { λ r. ⌜ (r ≡ effectOf t f board (now (area .entry)) .gives) ×
+        (now (area .exit) ≡ effectOf t f board (now (area .entry)) .area) ⌝ }
 {
     let command = f.command;
     let d = f.bytes;
     if command == table::FA {
-        return t.fa(request::fa(&d), board);
+        return fa::answer(t, request::fa(&d), board);
     }
     if command == table::FB {
-        return t.fb(request::fb(&d), board, &area[..]);
+        return fb::answer(t, request::fb(&d), board, &area[..]);
     }
     if command == table::FC {
-        return t.fc(request::fc(&d));
+        return fc::answer(t, request::fc(&d));
     }
     if command == table::FD {
-        return t.fd(request::fd(&d), request::packet(&d, f.length), area);
+        return fd::answer(t, request::fd(&d), request::packet(&d, f.length), area);
     }
-    t.fe(request::channel(&d))
+    fe::answer(t, request::channel(&d))
 }

@@ -1,10 +1,11 @@
 // A portion of the end check.
 use crate::session::Session;
+use commands::limits::MAX_REPLY;
 use commands::outcome;
-use commands::reply;
-use commands::reply::MAX_REPLY;
+use ending::check;
+use ending::check::CheckStep;
 use image::check::Verdict;
-use transfer::check::CheckStep;
+use replies::reply;
 ghost use mathlib.Core.Path.{_≡_};
 ghost use Rattle.session.specs.Checking.{outcomeOf, refusedCheck, checkedBy, checked};
 
@@ -32,7 +33,7 @@ impl Session {
         }
         let transfer = self.transfer;
         if transfer.check.running {
-            let portion = transfer.portion(most, area);
+            let portion = check::portion(transfer, most, area);
             return Checked::portion(self, portion);
         }
         Checked::refused(outcome::NO_CHECK_RUNS, self)

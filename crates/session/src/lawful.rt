@@ -1,18 +1,18 @@
 // Outcome 9's sentence, for what a session holds.
-use crate::list;
 use crate::session::Session;
 use crate::session::bad_area;
+use boards::board::Board;
+use boards::list;
 use commands::limits::MAX_NEXT;
 use commands::limits::MAX_PACKET;
 use commands::limits::MIN_PACKET;
-use transfer::board::Board;
 use transfer::phase::has_image;
 use transfer::phase::is_idle;
 use transfer::phase::is_receiving_or_done;
 use transfer::state::Transfer;
 ghost use mathlib.Core.Path.{_≡_};
 ghost use Prim.Native.Nat.{_≤_};
-ghost use Rattle.session.specs.Boards.{maxBoards};
+ghost use Rattle.boards.specs.Boards.{maxBoards};
 ghost use Rattle.session.specs.Lawful.{badLengths, badLast, badCheck, badSize, badSessionFields, unlawful};
 
 impl Session {

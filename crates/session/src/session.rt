@@ -1,8 +1,8 @@
 // The session by value, and its opening.
-use crate::list;
+use boards::board::Board;
+use boards::list;
 use commands::limits::MAX_AREA;
 use commands::outcome;
-use transfer::board::Board;
 use transfer::state::Transfer;
 ghost use mathlib.Core.Path.{_≡_};
 ghost use Rattle.session.specs.Opening.{badArea, noSession, opened};

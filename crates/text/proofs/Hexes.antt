@@ -1,12 +1,13 @@
 -- Bytes in hexadecimal, byte by byte. Assumes nothing.
+use borrow.Author.Tests.{le-leb}
 use mathlib.Core.Path.{_≡_, refl, sym, ap, ap₂, _∙_}
 use mathlib.Core.List.{List, [], _∷_, _++_, append-assoc}
 use Prim.Native.Nat.{ℕ, suc, _+_, _*_, _≤_, _<_}
 use native.Mathlib.Numerals.{add-one}
 use native.Mathlib.Omega.{arith}
 use lib.ListN.{length, take, drop, set, getD, length-append, length-drop}
-use lib.Seq.{take-suc, take-all, length-take-le, drop-drop}
-use Rattle.text.specs.Hex.{hexByte, hexBytes}
+use lib.Seq.{take-suc, take-all, take-at, length-take-le, drop-drop}
+use Rattle.text.specs.Hex.{hexByte, hexBytes, hexSize, hexRoom}
 
 pub hexBytes-append : (s t : List ℕ) → hexBytes (s ++ t) ≡ hexBytes s ++ hexBytes t
 hexBytes-append [] t = refl
@@ -15,6 +16,10 @@ hexBytes-append (b ∷ s) t = ap (λ (x : List ℕ). hexByte b ++ x) (hexBytes-a
 pub length-hexBytes : (s : List ℕ) → length (hexBytes s) ≡ 2 * length s
 length-hexBytes [] = refl
 length-hexBytes (b ∷ s) = omega (arith, length-hexBytes s)
+
+-- where they have room they stand at its front
+pub hex-in-front : (s room : List ℕ) → 2 * length s ≤ length room → take (hexSize s room) (hexRoom s room) ≡ hexBytes s
+hex-in-front s room fits = simp (le-leb _ _ fits) (take-at (hexBytes s) (drop (2 * length s) room) (2 * length s) (length-hexBytes s))
 
 -- ---- into a room, of which the first i bytes' digits are written
 
@@ -47,7 +52,8 @@ module _ (s room : List ℕ) where
       let next : 2 * i + 1 ≡ suc (length p) = omega (arith, at) in
       let more : hexBytes (take (i + 1) s) ≡ p ++ hexByte b =
       ap hexBytes (ap (λ (n : ℕ). take n s) (add-one i) ∙ take-suc s i 0 h) ∙ hexBytes-append (take i s) (b ∷ []) in
-      let rest : drop 2 r ≡ drop (2 * (i + 1)) room = drop-drop 2 (2 * i) room ∙ ap (λ (n : ℕ). drop n room) (let e : 2 * i + 2 ≡ 2 * (i + 1) = omega arith in e) in
+      let rest : drop 2 r ≡ drop (2 * (i + 1)) room = drop-drop 2 (2 * i) room
+      ∙ ap (λ (n : ℕ). drop n room) (let e : 2 * i + 2 ≡ 2 * (i + 1) = omega arith in e) in
       ap₂ (λ (j k : ℕ). set (set (p ++ r) j x) k y) at next
       ∙ put-two p r x y (omega (arith, length-drop (2 * i) room))
       ∙ sym (append-assoc p (hexByte b) (drop 2 r))

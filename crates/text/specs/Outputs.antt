@@ -3,13 +3,12 @@
 -- definition can say. Assumes nothing.
 use mathlib.Core.Path.{_≡_}
 use mathlib.Core.Bool.{true, false, cond}
-use mathlib.Core.List.{List}
+use mathlib.Core.List.{List, [], _∷_, _++_}
 use Prim.Native.Nat.{ℕ, _+_, _≤_}
 use lib.Dec.{ltb}
 use lib.ListN.{length}
 use Rattle.sequences.specs.Places.{writtenAt}
 use Rattle.text.specs.declared.output.Output.{Output}
-use Rattle.text.specs.Decimals.{Decimal}
 
 abbrev pub bufferSize : ℕ
 bufferSize = 65536
@@ -48,8 +47,19 @@ pub record TextAdded (o : Output) (text buffer : List ℕ) (r : Output) (after :
   pub fails : o .failed ≡ true → r .failed ≡ true
   pub unwritten : o .waiting + length text ≤ bufferSize → r .failed ≡ o .failed
 
--- so does a number
-pub record DecimalAdded (o : Output) (n : ℕ) (buffer : List ℕ) (r : Output) (after : List ℕ) : Type 0 where
-  pub text : List ℕ
-  pub is-decimal : Decimal n text
-  pub adds : TextAdded o text buffer r after
+-- so do several, one behind the other
+pub data TextsAdded : Output → List (List ℕ) → List ℕ → Output → List ℕ → Type 0 where
+  none : {o : Output} {buffer : List ℕ} → TextsAdded o [] buffer o buffer
+  more : {o m r : Output} {text : List ℕ} {texts : List (List ℕ)} {buffer between after : List ℕ}
+      → TextAdded o text buffer m between → TextsAdded m texts between r after → TextsAdded o (text ∷ texts) buffer r after
+
+-- several texts as one
+abbrev pub asOne : List (List ℕ) → List ℕ
+asOne [] = []
+asOne (text ∷ texts) = text ++ asOne texts
+
+-- The claim: where they all fit behind those that wait, it is no matter in how many texts they are put.
+abbrev pub AddedAsOne : Type 0
+AddedAsOne =
+    (o r : Output) (texts : List (List ℕ)) (buffer after : List ℕ) → TextsAdded o texts buffer r after → length buffer ≡ bufferSize
+    → o .waiting + length (asOne texts) ≤ bufferSize → TextAdded o (asOne texts) buffer r after

@@ -1,4 +1,6 @@
 // The number that decimal digits say.
+ghost use mathlib.Core.Path.{_≡_};
+ghost use Rattle.text.specs.Numbers.{digitOf, numberSaid};
 
 // More than five digits can say.
 pub const NONE: usize = 100000;
@@ -6,7 +8,9 @@ pub const NONE: usize = 100000;
 const MOST_DIGITS: usize = 5;
 
 // The number that 1 to 5 digits say; NONE where these bytes are something else.
-pub fn number(digits: &[u8]) -> usize {
+pub fn number(digits: &[u8]) -> usize
+    ensures { λ r. ⌜ r ≡ numberSaid (now (digits .entry)) ⌝ }
+{
     if digits.len() == 0 {
         return NONE;
     }
@@ -27,7 +31,9 @@ pub fn number(digits: &[u8]) -> usize {
 }
 
 // What a digit says; 10 for another byte.
-fn digit(b: u8) -> usize {
+fn digit(b: u8) -> usize
+    ensures { λ r. ⌜ r ≡ digitOf b ⌝ }
+{
     if b < b'0' {
         return 10;
     }

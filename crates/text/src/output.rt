@@ -5,7 +5,8 @@ use sequences::place;
 ghost use mathlib.Core.Path.{_≡_};
 ghost use mathlib.Core.Bool.{true};
 ghost use Prim.Native.Nat.{_≤_};
-ghost use Rattle.text.specs.Outputs.{bufferSize, nothing, Flushed, RoomMade, TextAdded, DecimalAdded};
+ghost use Rattle.text.specs.Outputs.{bufferSize, nothing, Flushed, RoomMade, TextAdded};
+ghost use Rattle.text.specs.Decimals.{decimal};
 
 // The length of the buffer: as `io::large_buffer` gives.
 pub const SIZE: usize = 65536;
@@ -49,7 +50,7 @@ impl Output {
 
     // Adds a number in decimal.
     pub fn decimal(self, n: u64, buffer: &mut [u8; SIZE]) -> Output
-        ensures { λ r. ⌜ DecimalAdded self n (now (buffer .entry)) r (now (buffer .exit)) ⌝ }
+        ensures { λ r. ⌜ TextAdded self (decimal n) (now (buffer .entry)) r (now (buffer .exit)) ⌝ }
     {
         let mut digits = [0u8; 20];
         let count = io::decimal(n, &mut digits);

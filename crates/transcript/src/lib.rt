@@ -13,18 +13,30 @@ use text::hex;
 use text::output::Output;
 use text::output::SIZE;
 use transfer::phase::Phase;
+ghost use Prim.Native.Nat.{_≤_};
+ghost use lib.ListN.{length};
+ghost use Rattle.fronts.specs.Frame.{maxFrame};
+ghost use Rattle.text.specs.Hex.{hexBytes};
+ghost use Rattle.text.specs.Outputs.{TextAdded, TextsAdded};
+ghost use Rattle.transcript.specs.Words.{way, decisionWord, phaseWord};
+ghost use Rattle.transcript.specs.Lines.{copyTexts, goneTexts, atControllerTexts, heardTexts, atSenderTexts, silenceTexts};
+ghost use Rattle.transcript.specs.Lines.{storedOfTexts, storedTexts, senderEndTexts, controllerEndTexts, areaEndTexts};
 
 // A longest frame in hexadecimal.
 const DIGITS: usize = 2 * MAX_FRAME;
 
 // A copy of a frame that does not arrive: lost, dropped or left.
-pub fn gone(output: Output, frame: Frame, fate: &[u8], out: &mut [u8; SIZE]) -> Output {
+pub fn gone(output: Output, frame: Frame, fate: &[u8], out: &mut [u8; SIZE]) -> Output
+    ensures { λ r. ⌜ TextsAdded output (goneTexts frame (now (fate .entry))) (now (out .entry)) r (now (out .exit)) ⌝ }
+{
     copy(output, frame, &mut *out).text(fate, &mut *out)
         .text(b"\n", out)
 }
 
 // A copy that arrives at the controller.
-pub fn at_controller(output: Output, frame: Frame, outcome: u8, out: &mut [u8; SIZE]) -> Output {
+pub fn at_controller(output: Output, frame: Frame, outcome: u8, out: &mut [u8; SIZE]) -> Output
+    ensures { λ r. ⌜ TextsAdded output (atControllerTexts frame outcome) (now (out .entry)) r (now (out .exit)) ⌝ }
+{
     copy(output, frame, &mut *out).text(b"controller ", &mut *out)
         .decimal(outcome as u64, &mut *out)
         .text(b"\n", out)
@@ -37,16 +49,22 @@ pub fn at_sender(
     outcome: u8,
     decision: Decision,
     out: &mut [u8; SIZE],
-) -> Output {
+) -> Output
+    ensures { λ r. ⌜ TextsAdded output (atSenderTexts frame outcome decision) (now (out .entry)) r (now (out .exit)) ⌝ }
+{
     heard(copy(output, frame, &mut *out), outcome, decision, out)
 }
 
-pub fn silence(output: Output, outcome: u8, decision: Decision, out: &mut [u8; SIZE]) -> Output {
+pub fn silence(output: Output, outcome: u8, decision: Decision, out: &mut [u8; SIZE]) -> Output
+    ensures { λ r. ⌜ TextsAdded output (silenceTexts outcome decision) (now (out .entry)) r (now (out .exit)) ⌝ }
+{
     heard(output.text(b"silence ", &mut *out), outcome, decision, out)
 }
 
 // What the controller has stored of an image of m bytes.
-pub fn stored(output: Output, n: usize, m: usize, is_same: bool, out: &mut [u8; SIZE]) -> Output {
+pub fn stored(output: Output, n: usize, m: usize, is_same: bool, out: &mut [u8; SIZE]) -> Output
+    ensures { λ r. ⌜ TextsAdded output (storedTexts n m «is_same») (now (out .entry)) r (now (out .exit)) ⌝ }
+{
     let told = stored_of(output, n, m, &mut *out);
     if is_same {
         return told.text(b", as in the image\n", out);
@@ -54,7 +72,9 @@ pub fn stored(output: Output, n: usize, m: usize, is_same: bool, out: &mut [u8; 
     told.text(b", NOT as in the image\n", out)
 }
 
-pub fn sender_end(output: Output, is_done: bool, out: &mut [u8; SIZE]) -> Output {
+pub fn sender_end(output: Output, is_done: bool, out: &mut [u8; SIZE]) -> Output
+    ensures { λ r. ⌜ TextsAdded output (senderEndTexts «is_done») (now (out .entry)) r (now (out .exit)) ⌝ }
+{
     if is_done {
         return output.text(b"sender done\n", out);
     }
@@ -67,12 +87,16 @@ pub fn controller_end(
     n: usize,
     m: usize,
     out: &mut [u8; SIZE],
-) -> Output {
+) -> Output
+    ensures { λ r. ⌜ TextsAdded output (controllerEndTexts phase n m) (now (out .entry)) r (now (out .exit)) ⌝ }
+{
     let told = in_phase(output.text(b"controller ", &mut *out), phase, &mut *out);
     stored_of(told.text(b", ", &mut *out), n, m, &mut *out).text(b"\n", out)
 }
 
-pub fn area_end(output: Output, is_same: bool, out: &mut [u8; SIZE]) -> Output {
+pub fn area_end(output: Output, is_same: bool, out: &mut [u8; SIZE]) -> Output
+    ensures { λ r. ⌜ TextsAdded output (areaEndTexts «is_same») (now (out .entry)) r (now (out .exit)) ⌝ }
+{
     if is_same {
         return output.text(b"area equals the image\n", out);
     }
@@ -80,19 +104,30 @@ pub fn area_end(output: Output, is_same: bool, out: &mut [u8; SIZE]) -> Output {
 }
 
 // Way, command and bytes of a copy, each with a space behind it.
-fn copy(output: Output, frame: Frame, out: &mut [u8; SIZE]) -> Output {
+fn copy(output: Output, frame: Frame, out: &mut [u8; SIZE]) -> Output
+    ensures { λ r. ⌜ TextsAdded output (copyTexts frame) (now (out .entry)) r (now (out .exit)) ⌝ }
+{
     let bytes = frame.bytes;
     let all = front(&bytes, frame.length);
     let command = hex::byte(buffer::command(all));
-    let mut digits = [0u8; DIGITS];
-    let n = hex::bytes(all, &mut digits);
-    way(output, frame.to_sender, &mut *out).text(&command, &mut *out)
-        .text(b" ", &mut *out)
-        .text(front(&digits, n), &mut *out)
-        .text(b" ", out)
+    let told = way(output, frame.to_sender, &mut *out).text(&command, &mut *out)
+        .text(b" ", &mut *out);
+    digits(told, all, &mut *out).text(b" ", out)
 }
 
-fn way(output: Output, to_sender: bool, out: &mut [u8; SIZE]) -> Output {
+// The bytes of a frame, of which none has more, in hexadecimal.
+fn digits(output: Output, bytes: &[u8], out: &mut [u8; SIZE]) -> Output
+    requires { ⌜ length (now bytes) ≤ maxFrame ⌝ }
+    ensures { λ r. ⌜ TextAdded output (hexBytes (now (bytes .entry))) (now (out .entry)) r (now (out .exit)) ⌝ }
+{
+    let mut digits = [0u8; DIGITS];
+    let n = hex::bytes(bytes, &mut digits);
+    output.text(front(&digits, n), out)
+}
+
+fn way(output: Output, to_sender: bool, out: &mut [u8; SIZE]) -> Output
+    ensures { λ r. ⌜ TextAdded output (way «to_sender») (now (out .entry)) r (now (out .exit)) ⌝ }
+{
     if to_sender {
         return output.text(b"<- ", out);
     }
@@ -100,21 +135,32 @@ fn way(output: Output, to_sender: bool, out: &mut [u8; SIZE]) -> Output {
 }
 
 // What the sender makes of a reply or a silence.
-fn heard(output: Output, outcome: u8, decision: Decision, out: &mut [u8; SIZE]) -> Output {
+fn heard(output: Output, outcome: u8, decision: Decision, out: &mut [u8; SIZE]) -> Output
+    ensures { λ r. ⌜ TextsAdded output (heardTexts outcome decision) (now (out .entry)) r (now (out .exit)) ⌝ }
+{
     let told = output
         .text(b"sender ", &mut *out)
         .decimal(outcome as u64, &mut *out);
+    to_do(told, decision, out)
+}
+
+// The decision, the last word of its line.
+fn to_do(output: Output, decision: Decision, out: &mut [u8; SIZE]) -> Output
+    ensures { λ r. ⌜ TextAdded output (decisionWord decision) (now (out .entry)) r (now (out .exit)) ⌝ }
+{
     match decision {
-        Decision::Nothing => told.text(b" none\n", out),
-        Decision::GoOn => told.text(b" go on\n", out),
-        Decision::SendAgain => told.text(b" send again\n", out),
-        Decision::NewLeg => told.text(b" new leg\n", out),
-        Decision::Done => told.text(b" done\n", out),
-        Decision::GivenUp => told.text(b" given up\n", out),
+        Decision::Nothing => output.text(b" none\n", out),
+        Decision::GoOn => output.text(b" go on\n", out),
+        Decision::SendAgain => output.text(b" send again\n", out),
+        Decision::NewLeg => output.text(b" new leg\n", out),
+        Decision::Done => output.text(b" done\n", out),
+        Decision::GivenUp => output.text(b" given up\n", out),
     }
 }
 
-fn stored_of(output: Output, n: usize, m: usize, out: &mut [u8; SIZE]) -> Output {
+fn stored_of(output: Output, n: usize, m: usize, out: &mut [u8; SIZE]) -> Output
+    ensures { λ r. ⌜ TextsAdded output (storedOfTexts n m) (now (out .entry)) r (now (out .exit)) ⌝ }
+{
     output
         .text(b"stored ", &mut *out)
         .decimal(n as u64, &mut *out)
@@ -122,7 +168,9 @@ fn stored_of(output: Output, n: usize, m: usize, out: &mut [u8; SIZE]) -> Output
         .decimal(m as u64, out)
 }
 
-fn in_phase(output: Output, phase: Phase, out: &mut [u8; SIZE]) -> Output {
+fn in_phase(output: Output, phase: Phase, out: &mut [u8; SIZE]) -> Output
+    ensures { λ r. ⌜ TextAdded output (phaseWord phase) (now (out .entry)) r (now (out .exit)) ⌝ }
+{
     match phase {
         Phase::Idle => output.text(b"idle", out),
         Phase::Asked => output.text(b"asked", out),

@@ -1,6 +1,2 @@
--- The laws that belong to no one function, by subject.
+-- The laws that belong to no one function.
 pub mod PhaseLaws
-pub mod Packets
-pub mod Results
-pub mod Ends
-pub mod Repetitions

@@ -1,11 +1,4 @@
--- The definitions that the contracts of `transfer` cite, in the order of 01, "How the session answers".
+-- The definitions that the contracts of `transfer` cite: 01, "The record and the board list".
 pub mod Phases
 pub mod Identities
 pub mod Transfers
-pub mod FA
-pub mod FB
-pub mod FC
-pub mod FD
-pub mod FE
-pub mod Portions
-pub mod Repeats

@@ -7,7 +7,7 @@ use Rattle.sequences.specs.Padding.{padded, zeros}
 use Rattle.image.specs.declared.check.Check.{Check}
 use Rattle.image.specs.Progresses.{progressFrom}
 use Rattle.image.specs.Checks.{noCheck}
-use Rattle.commands.specs.Replies.{maxReply}
+use Rattle.commands.specs.Limits.{maxReply}
 use Rattle.transfer.specs.declared.phase.Phase.{Phase}
 use Rattle.transfer.specs.declared.phase.Phase.the-variants.{Idle}
 use Rattle.transfer.specs.declared.identity.Identity.{Identity}
@@ -23,7 +23,7 @@ noLeg = record { phase = Idle; channel = 0; agreed = 0; next = 0 }
 abbrev pub noTransfer : Transfer
 noTransfer = record { leg = noLeg; progress = progressFrom 0; image = noIdentity; check = noCheck }
 
--- ---- the changes, each of one group
+-- ---- the changes, each of one group but for `replaced`
 
 abbrev pub inPhase : Leg → Phase → Leg
 inPhase l phase = record { phase = phase; channel = l .channel; agreed = l .agreed; next = l .next }
@@ -45,7 +45,8 @@ withCheck t check = record { leg = t .leg; progress = t .progress; image = t .im
 abbrev pub otherChannel : Transfer → ℕ → Bool
 otherChannel t channel = not (eqb channel (t .leg .channel))
 
--- ---- the answers: a reply with this data; an answer without a reply (outcome 0; 19 of a portion); or none and nothing changed (outcome 10)
+-- ---- the answers: a reply with this data; an answer without a reply (outcome 0; 19 of a portion); or none and nothing changed
+-- (outcome 10)
 
 abbrev pub replied : Transfer → List ℕ → Step
 replied t d = record { answered = true; replies = true; transfer = t; reply = padded maxReply d }

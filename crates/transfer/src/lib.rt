@@ -1,17 +1,12 @@
-// One transfer of an image to a board: its state, and what FA, FB, FC, FD and FE do to it, to the area and to the reply.
+// The state of one transfer of an image to a board, by value.
 //
-// Each command is a method of `Transfer` that takes it by value, with the request's fields, and hands back a `Step`: the next
-// transfer, the reply's data, and whether there is an answer at all, and one with a reply. `Transfer::portion` goes on with the end check
-// that FE starts. Any transfer, request and area is taken; nothing is asked of the caller. Nothing here knows the board list, a frame's
-// bytes or an outcome's number.
-pub mod board;
-pub mod check;
-mod compare;
-mod fa;
-mod fb;
-mod fc;
-mod fd;
-mod fe;
+// - `phase::Phase`: how far it has come. `identity::Identity`: which image it is of.
+// - `state::Transfer`: both, with the leg's numbers, what is stored and the end check; the few ways in which it changes.
+// - `state::Step`: what a command or a portion of the end check makes of it: the next transfer, the reply's data, and whether there is an
+//   answer at all, and one with a reply.
+//
+// What FA to FE do to a transfer are the crates `agreement` (FA, FB, FC), `packets` (FD) and `ending` (FE and its check). None of these
+// knows the board list, a frame's bytes or an outcome's number.
 pub mod identity;
 pub mod phase;
 pub mod state;

@@ -34,7 +34,7 @@ pub fn has_image(p: Phase) -> bool
     }
 }
 
-pub(crate) fn is_told_or_receiving(p: Phase) -> bool
+pub fn is_told_or_receiving(p: Phase) -> bool
     ensures { λ r. ⌜ r ≡ toldOrReceiving p ⌝ }
 {
     match p {
@@ -46,7 +46,7 @@ pub(crate) fn is_told_or_receiving(p: Phase) -> bool
     }
 }
 
-pub(crate) fn is_receiving(p: Phase) -> bool
+pub fn is_receiving(p: Phase) -> bool
     ensures { λ r. ⌜ r ≡ receiving p ⌝ }
 {
     match p {

@@ -1,13 +1,14 @@
 // The state of a transfer, and the few ways in which a command or a portion of the end check changes it.
 use crate::identity::Identity;
 use crate::phase::Phase;
-use commands::reply;
-use commands::reply::MAX_REPLY;
+use commands::limits::MAX_REPLY;
 use image::check::Check;
 use image::progress::Progress;
+use replies::reply;
 ghost use mathlib.Core.Path.{_≡_};
 ghost use mathlib.Core.Bool.{true};
-ghost use Rattle.transfer.specs.Transfers.{noLeg, noTransfer, inPhase, withLeg, withPhase, replaced, withCheck, noted, unanswered, otherChannel};
+ghost use Rattle.transfer.specs.Transfers.{noLeg, noTransfer, inPhase, withLeg, withPhase, replaced, withCheck, noted};
+ghost use Rattle.transfer.specs.Transfers.{unanswered, otherChannel};
 
 // What a transfer has agreed on, and how far its frames have come.
 pub struct Leg {
@@ -36,7 +37,7 @@ pub struct Step {
 }
 
 impl Step {
-    pub(crate) fn replied(transfer: Transfer, reply: [u8; MAX_REPLY]) -> Step
+    pub fn replied(transfer: Transfer, reply: [u8; MAX_REPLY]) -> Step
         ensures { λ r. ⌜ r ≡ record { answered = true; replies = true; transfer = transfer; reply = reply } ⌝ }
     {
         Step {
@@ -48,7 +49,7 @@ impl Step {
     }
 
     // Answered without a reply.
-    pub(crate) fn noted(transfer: Transfer) -> Step
+    pub fn noted(transfer: Transfer) -> Step
         ensures { λ r. ⌜ r ≡ noted transfer ⌝ }
     {
         let reply = reply::none();
@@ -60,7 +61,7 @@ impl Step {
         }
     }
 
-    pub(crate) fn unanswered(transfer: Transfer) -> Step
+    pub fn unanswered(transfer: Transfer) -> Step
         ensures { λ r. ⌜ r ≡ unanswered transfer ⌝ }
     {
         let reply = reply::none();
@@ -85,7 +86,7 @@ impl Leg {
         }
     }
 
-    pub(crate) fn in_phase(self, phase: Phase) -> Leg
+    pub fn in_phase(self, phase: Phase) -> Leg
         ensures { λ r. ⌜ r ≡ inPhase self phase ⌝ }
     {
         Leg {
@@ -109,7 +110,7 @@ impl Transfer {
         }
     }
 
-    pub(crate) fn with_leg(self, leg: Leg) -> Transfer
+    pub fn with_leg(self, leg: Leg) -> Transfer
         ensures { λ r. ⌜ r ≡ withLeg self leg ⌝ }
     {
         let progress = self.progress;
@@ -123,7 +124,7 @@ impl Transfer {
         }
     }
 
-    pub(crate) fn with_phase(self, phase: Phase) -> Transfer
+    pub fn with_phase(self, phase: Phase) -> Transfer
         ensures { λ r. ⌜ r ≡ withPhase self phase ⌝ }
     {
         let leg = self.leg;
@@ -131,7 +132,7 @@ impl Transfer {
     }
 
     // Another image (FB), or none any more (a failed end check): nothing of it is stored.
-    pub(crate) fn replaced(self, phase: Phase, image: Identity) -> Transfer
+    pub fn replaced(self, phase: Phase, image: Identity) -> Transfer
         ensures { λ r. ⌜ r ≡ replaced self phase image ⌝ }
     {
         let leg = self.leg;
@@ -144,7 +145,7 @@ impl Transfer {
         }
     }
 
-    pub(crate) fn with_check(self, check: Check) -> Transfer
+    pub fn with_check(self, check: Check) -> Transfer
         ensures { λ r. ⌜ r ≡ withCheck self check ⌝ }
     {
         let leg = self.leg;
@@ -158,7 +159,7 @@ impl Transfer {
         }
     }
 
-    pub(crate) fn other_channel(self, channel: u8) -> bool
+    pub fn other_channel(self, channel: u8) -> bool
         ensures { λ r. ⌜ r ≡ otherChannel self channel ⌝ }
     {
         channel != self.leg.channel

@@ -1,2 +1,3 @@
--- The definitions that the contracts of `words` cite.
+-- The definitions that the contracts of `words` cite, and the claim about what they say.
+pub mod Sayings
 pub mod Ranges

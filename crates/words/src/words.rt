@@ -1,18 +1,29 @@
 // What the words say.
 use crate::complaint::complain;
 use bench::CHANNEL;
+use boards::list::FIRST_CHANNEL;
+use boards::list::LAST_CHANNEL;
+use commands::limits::MIN_PACKET;
 use link::script;
 use sequences::part::begins;
 use sequences::part::behind;
+use text::number::NONE;
 use text::number::number;
-ghost use Rattle.words.specs.Ranges.{InRange};
+ghost use mathlib.Core.Path.{_≡_};
+ghost use Prim.Native.Nat.{_≤_};
+ghost use lib.ListN.{drop};
+ghost use Rattle.link.specs.Scripts.{allLetters};
+ghost use Rattle.text.specs.Numbers.{noNumber, numberSaid};
+ghost use Rattle.boards.specs.Boards.{firstChannel, lastChannel};
+ghost use Rattle.commands.specs.Limits.{minPacket};
+ghost use Rattle.words.specs.Sayings.{mostSize, channelName, sizeName, linkName, behindName, numberBetween, noWords};
+ghost use Rattle.words.specs.Sayings.{notTaken, withImage, withChannel, withSize, withLink, wordSaid};
 
-const FIRST_CHANNEL: usize = 10;
+const LEAST_CHANNEL: usize = FIRST_CHANNEL as usize;
 
-const LAST_CHANNEL: usize = 19;
+const MOST_CHANNEL: usize = LAST_CHANNEL as usize;
 
-const LEAST_SIZE: usize = 16;
-
+// The most that the size's two bytes can say.
 const MOST_SIZE: usize = 65535;
 
 pub struct Words {
@@ -31,13 +42,13 @@ pub struct Words {
 impl Words {
     // What stands without a word.
     pub fn none() -> Words
-        ensures { λ r. ⌜ InRange r ⌝ }
+        ensures { λ r. ⌜ r ≡ noWords ⌝ }
     {
         Words {
             image: 0,
             link: 0,
             channel: CHANNEL,
-            size: 16,
+            size: MIN_PACKET as u16,
             has_channel: false,
             has_size: false,
             is_bad: false,
@@ -46,7 +57,7 @@ impl Words {
 
     // With the word at place i of the arguments.
     pub fn with_word(self, i: usize, word: &[u8]) -> Words
-        ensures { λ r. ⌜ (InRange self → InRange r) ⌝ }
+        ensures { λ r. ⌜ r ≡ wordSaid self i (now (word .entry)) ⌝ }
     {
         if begins(word, b"image=") {
             return self.with_image(i, word);
@@ -67,7 +78,7 @@ impl Words {
     }
 
     fn with_image(mut self, i: usize, word: &[u8]) -> Words
-        ensures { λ r. ⌜ (InRange self → InRange r) ⌝ }
+        ensures { λ r. ⌜ r ≡ withImage self i ⌝ }
     {
         if self.image != 0 {
             return self.refused(b"image comes once", word);
@@ -77,16 +88,13 @@ impl Words {
     }
 
     fn with_channel(mut self, word: &[u8]) -> Words
-        ensures { λ r. ⌜ (InRange self → InRange r) ⌝ }
+        ensures { λ r. ⌜ r ≡ withChannel self (numberBetween firstChannel lastChannel (behindName channelName (now (word .entry)))) ⌝ }
     {
         if self.has_channel {
             return self.refused(b"channel comes once", word);
         }
-        let n = number(behind(word, b"channel=".len()));
-        if n < FIRST_CHANNEL {
-            return self.refused(b"channel is 10 to 19", word);
-        }
-        if LAST_CHANNEL < n {
+        let n = number_behind(word, b"channel=".len(), LEAST_CHANNEL, MOST_CHANNEL);
+        if n == NONE {
             return self.refused(b"channel is 10 to 19", word);
         }
         self.channel = n as u8;
@@ -95,16 +103,13 @@ impl Words {
     }
 
     fn with_size(mut self, word: &[u8]) -> Words
-        ensures { λ r. ⌜ (InRange self → InRange r) ⌝ }
+        ensures { λ r. ⌜ r ≡ withSize self (numberBetween minPacket mostSize (behindName sizeName (now (word .entry)))) ⌝ }
     {
         if self.has_size {
             return self.refused(b"size comes once", word);
         }
-        let n = number(behind(word, b"size=".len()));
-        if n < LEAST_SIZE {
-            return self.refused(b"size is 16 to 65535", word);
-        }
-        if MOST_SIZE < n {
+        let n = number_behind(word, b"size=".len(), MIN_PACKET, MOST_SIZE);
+        if n == NONE {
             return self.refused(b"size is 16 to 65535", word);
         }
         self.size = n as u16;
@@ -113,24 +118,51 @@ impl Words {
     }
 
     fn with_link(mut self, i: usize, word: &[u8]) -> Words
-        ensures { λ r. ⌜ (InRange self → InRange r) ⌝ }
+        ensures { λ r. ⌜ r ≡ withLink self i (behindName linkName (now (word .entry))) ⌝ }
     {
         if self.link != 0 {
             return self.refused(b"link comes once", word);
         }
-        if !script::is_script(behind(word, b"link=".len())) {
-            return self.refused(b"link has the letters p, l, r and s only", word);
+        if is_script_behind(word, b"link=".len()) {
+            self.link = i;
+            return self;
         }
-        self.link = i;
-        self
+        self.refused(b"link has the letters p, l, r and s only", word)
     }
 
     // A word is not taken: what is expected is told.
     pub fn refused(mut self, expected: &[u8], word: &[u8]) -> Words
-        ensures { λ r. ⌜ (InRange self → InRange r) ⌝ }
+        ensures { λ r. ⌜ r ≡ notTaken self ⌝ }
     {
         complain(expected, word);
         self.is_bad = true;
         self
     }
+}
+
+// The number behind the name of a word, which has so many bytes; NONE where that is not from `least` to `most`.
+fn number_behind(word: &[u8], name: usize, least: usize, most: usize) -> usize
+    ensures { λ r. ⌜ r ≡ numberBetween least most (drop name (now (word .entry))) ⌝ }
+    ensures { λ r. ⌜ ((r ≡ noNumber → ⊥) → r ≤ most) ⌝ }
+{
+    let n = said_behind(word, name);
+    if n < least {
+        return NONE;
+    }
+    if most < n {
+        return NONE;
+    }
+    n
+}
+
+fn said_behind(word: &[u8], name: usize) -> usize
+    ensures { λ r. ⌜ r ≡ numberSaid (drop name (now (word .entry))) ⌝ }
+{
+    number(behind(word, name))
+}
+
+fn is_script_behind(word: &[u8], name: usize) -> bool
+    ensures { λ r. ⌜ r ≡ allLetters (drop name (now (word .entry))) ⌝ }
+{
+    script::is_script(behind(word, name))
 }

@@ -17,7 +17,8 @@ frame-requires c κs =
 returns : tie.Need-returns
 returns c =
     let a = c .before .before .before .args in
-    subst (λ (s : List ℕ). FrameText (a .place) (a .command) (a .outcome) s (lineText (c .frame .result))) (c .before .front .ensures) (c .frame .ensures)
+    subst (λ (s : List ℕ). FrameText (a .place) (a .command) (a .outcome) s (lineText (c .frame .result))) (c .before .front .ensures)
+    (c .frame .ensures)
 
 pub line-at-spec : {M : Type 1} → statement M
 line-at-spec = tie.close (tie.spec (λ c κs. search needs) frame-requires returns)

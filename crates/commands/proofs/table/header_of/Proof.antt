@@ -7,11 +7,23 @@ use Rattle.commands.proofs.table.header_of.Tie as tie
 
 returns : tie.Need-returns
 unfolding headerOf
-returns c = simp (← c .before .before .before .place-of .ensures .0, lt-ltb _ _ (c .before .before .if1 .taken), ← c .before .bad-header .ensures, c .if2 .taken)
+returns c =
+    simp (
+      ← c .before .before .before .place-of .ensures .0,
+      lt-ltb _ _ (c .before .before .if1 .taken),
+      ← c .before .bad-header .ensures,
+      c .if2 .taken,
+    )
 
 returns-2 : tie.Need-returns-2
 unfolding headerOf
-returns-2 c = simp (← c .before .before .before .place-of .ensures .0, lt-ltb _ _ (c .before .before .if1 .taken), ← c .before .bad-header .ensures, c .if2 .left)
+returns-2 c =
+    simp (
+      ← c .before .before .before .place-of .ensures .0,
+      lt-ltb _ _ (c .before .before .if1 .taken),
+      ← c .before .bad-header .ensures,
+      c .if2 .left,
+    )
 
 returns-3 : tie.Need-returns-3
 unfolding headerOf

@@ -12,10 +12,12 @@ returns c =
     let found = c .before .before .before .before .before .before .before .before .before .before .before .if1 .taken in
     let a = c .before .before .before .before .before .before .before .before .answer .ensures in
     let w = c .before .before .write-reply .ensures in
-    let args = c .before .before .before .before .before .before .before .before .before .before .before .before .before .before .before .args in
+    let args = c .before .before .before .before .before .before .before .before .before .before .before .before .before .before .before
+    .args in
     record {
       gives = simp (found, w .gives, a .0);
-      leaves-room = rw found (w .leaves ∙ ap (λ (x : Answer). replyRoomOf (x .replies) (args .f .frame .command) (x .reply) (args .room .now)) (a .0));
+      leaves-room = rw found
+          (w .leaves ∙ ap (λ (x : Answer). replyRoomOf (x .replies) (args .f .frame .command) (x .reply) (args .room .now)) (a .0));
       leaves-area = rw found (a .1);
     }
 

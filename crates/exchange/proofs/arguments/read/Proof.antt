@@ -1,9 +1,10 @@
 -- `exchange::arguments::read` meets its contract. Assumes nothing.
 use borrow.Author.Needs.{needs}
-use mathlib.Core.Path.{_≡_, refl}
+use mathlib.Core.Path.{_≡_, refl, sym, subst}
 use Prim.Native.Nat.{_-_}
 use lib.ListN.{length}
 use Rattle.words.specs.Ranges.{InRange}
+use Rattle.words.proofs.Sayings.{stay-in-range}
 use Rattle.exchange.proofs.arguments.read.Statement.{statement}
 use Rattle.exchange.proofs.arguments.read.Tie as tie
 
@@ -14,7 +15,7 @@ abbrev μ-loop : tie.MeasureT-loop
 μ-loop word₀ words₀ count i₀ word words i = count - i
 
 loop-holds : tie.Need-loop-holds Inv-loop μ-loop
-loop-holds c = (refl, c .before .none .ensures)
+loop-holds c = (refl, subst InRange (sym (c .before .none .ensures)) (stay-in-range .none))
 
 returns : tie.Need-returns Inv-loop μ-loop
 returns c = let at = c .before .before .before in at .with-argument .ensures (at .before .before .before .loop .inv .1)

@@ -10,7 +10,8 @@ use Rattle.frames.proofs.buffer.command.Tie as tie
 
 shared-slice-read-result : tie.Need-shared-slice-read-result
 unfolding wholeAt
-shared-slice-read-result c = omega (arith, whole-passed _ (is-whole _ (sym (c .before .before .whole .ensures) ∙ c .before .if1 .taken)) .there)
+shared-slice-read-result c =
+    omega (arith, whole-passed _ (is-whole _ (sym (c .before .before .whole .ensures) ∙ c .before .if1 .taken)) .there)
 
 returns : tie.Need-returns
 unfolding commandAt frameAt

@@ -81,11 +81,13 @@ returns c =
     let version = c .before .byte .ensures ∙ sym (getD-slice from (o .args .to) 2 (all o) (omega (arith, fits p))) in
     let command = c .byte2 .ensures ∙ sym (getD-slice from (o .args .to) 3 (all o) (omega (arith, fits p))) in
     ap₂ (λ (v m : ℕ). record { version = v; command = m; length = n; bytes = copied .last .1 .1 .1 .1 .0 }) version command
-    ∙ ap₂ (λ (i : ℕ) (l : List ℕ). record { version = getD (s o) 2 0; command = getD (s o) 3 0; length = i; bytes = l }) (sym size ∙ ap length payload) bytes
+    ∙ ap₂ (λ (i : ℕ) (l : List ℕ). record { version = getD (s o) 2 0; command = getD (s o) 3 0; length = i; bytes = l })
+    (sym size ∙ ap length payload) bytes
 
 pub frame-at-spec : {M : Type 1} → statement M
 frame-at-spec =
     tie.close
     (tie.spec
-    (λ c κs. search needs) add-start add-end (λ c. search needs) (λ c κs. search needs) add-byte (λ c κs. search needs) add-byte-2 (λ c κs. search needs)
+    (λ c κs. search needs) add-start add-end (λ c. search needs) (λ c κs. search needs) add-byte (λ c κs. search needs) add-byte-2
+    (λ c κs. search needs)
     returns)

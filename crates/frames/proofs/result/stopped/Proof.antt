@@ -69,10 +69,13 @@ returns c =
     let h = held start in
     let from = start .args .s .from in
     let taken = start .args .s .to - length (start .args .a .now) in
-    let behind = ap (λ (k : ℕ). slice (from + frameSize k) (start .args .s .to) (all start)) (L-is p) ∙ sym (drop-slice from (start .args .s .to) (frameSize (lengthAt h)) (all start)) in
+    let behind = ap (λ (k : ℕ). slice (from + frameSize k) (start .args .s .to) (all start)) (L-is p)
+    ∙ sym (drop-slice from (start .args .s .to) (frameSize (lengthAt h)) (all start)) in
     let next : c .hold .result ≡ holding (drop (frameSize (lengthAt h)) h) = c .hold .ensures ∙ ap holding behind in
-    ap₂ (λ (r : Reader) (f : FinishedFrame). record { next = r; taken = taken; dropped = from; found = true; frame = f }) next (p .frame-at .ensures)
-    ∙ ap (λ (b : Bool). handedBack (cond b (withFrame taken h from) (withoutFrame taken h from))) (sym (c .before .before .before .if1 .taken))
+    ap₂ (λ (r : Reader) (f : FinishedFrame). record { next = r; taken = taken; dropped = from; found = true; frame = f }) next
+    (p .frame-at .ensures)
+    ∙ ap (λ (b : Bool). handedBack (cond b (withFrame taken h from) (withoutFrame taken h from)))
+    (sym (c .before .before .before .if1 .taken))
 
 returns-2 : tie.Need-returns-2
 returns-2 c =
@@ -80,7 +83,8 @@ returns-2 c =
     let h = held start in
     let from = start .args .s .from in
     let taken = start .args .s .to - length (start .args .a .now) in
-    ap₂ (λ (r : Reader) (f : FinishedFrame). record { next = r; taken = taken; dropped = from; found = false; frame = f }) (c .before .hold2 .ensures) (c .no-frame .ensures)
+    ap₂ (λ (r : Reader) (f : FinishedFrame). record { next = r; taken = taken; dropped = from; found = false; frame = f })
+    (c .before .hold2 .ensures) (c .no-frame .ensures)
     ∙ ap (λ (b : Bool). handedBack (cond b (withFrame taken h from) (withoutFrame taken h from))) (sym (c .before .before .if1 .left))
 
 pub stopped-spec : {M : Type 1} → statement M

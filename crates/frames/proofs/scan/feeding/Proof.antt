@@ -11,14 +11,16 @@ use Rattle.fronts.specs.declared.front.Front.the-variants.{Whole, Dead, Open}
 use Rattle.fronts.specs.Frame.{maxFrame}
 use Rattle.fronts.specs.Fronts.{frontOf, Missing}
 use Rattle.frames.specs.LiveReading.{withoutFrame, feedingCall}
-use Rattle.frames.proofs.Positions.{feedingAt, feeding-start, dead-some, feeding-dead-at, feeding-waits-at, waits-room, feeding-whole-at, feeding-ends-at}
+use Rattle.frames.proofs.Positions.{feedingAt, feeding-start, dead-some, feeding-dead-at, feeding-waits-at, waits-room}
+use Rattle.frames.proofs.Positions.{feeding-whole-at, feeding-ends-at}
 use Rattle.frames.proofs.Stretches.{feeding-headless-at}
 use Rattle.frames.proofs.scan.feeding.Statement.{statement}
 use Rattle.frames.proofs.scan.feeding.Tie as tie
 
 abbrev Inv-loop : tie.InvT-loop
 Inv-loop a b held all from₀ to₀ from to =
-    (from ≤ to) × ((to ≤ length a + length b) × ((length a ≤ to) × ((to ≤ from + maxFrame) × (feedingCall b a 0 0 ≡ feedingAt (a ++ b) (length a) from to))))
+    (from ≤ to) × ((to ≤ length a + length b) ×
+    ((length a ≤ to) × ((to ≤ from + maxFrame) × (feedingCall b a 0 0 ≡ feedingAt (a ++ b) (length a) from to))))
 
 abbrev μ-loop : tie.MeasureT-loop
 μ-loop a b held all from₀ to₀ from to = 2 * (length a + length b) - (from + to)
@@ -94,7 +96,8 @@ loop-again c =
     let some = loses e in
     let on =
     feeding-dead-at v n (from p) (to p) some (end p) (dead e)
-    ∙ feeding-headless-at v n (from p + 1) (to p) (n + length (b p)) (at .result) (omega arith) (end p) (omega arith) (omega (arith, length-append (a p) (b p))) (at .ensures)
+    ∙ feeding-headless-at v n (from p + 1) (to p) (n + length (b p)) (at .result) (omega arith) (end p) (omega arith)
+    (omega (arith, length-append (a p) (b p))) (at .ensures)
     ∙ ap (feedingAt v n (at .result)) (sym (c .larger .ensures)) in
     (omega arith, (omega arith, (omega arith, (omega arith, goes-on p ∙ on))))
 
@@ -104,7 +107,13 @@ returns-2 c =
     let undecided : frontOf (slice (from p) (to p) (a p ++ b p)) ≡ Open = sym (p .front-at .ensures) ∙ c .before .enum-told3 .given .1 in
     let last : to p ≡ length (a p ++ b p) = omega (arith, length-append (a p) (b p)) in
     record {
-      stop = record { ordered = omega arith; within = omega arith; taken = omega arith; small = omega arith; whole = λ e. absurd (false≢true e) };
+      stop = record {
+        ordered = omega arith;
+        within = omega arith;
+        taken = omega arith;
+        small = omega arith;
+        whole = λ e. absurd (false≢true e);
+      };
       is =
           goes-on p
           ∙ feeding-ends-at (a p ++ b p) (length (a p)) (from p) (to p) last undecided
@@ -126,7 +135,8 @@ module _ (c : tie.After-smaller Inv-loop μ-loop) where
   k = c .smaller .result
 
   undecided : Missing v (from p) (to p) (c .before .missing .result)
-  undecided = c .before .missing .ensures (omega arith) (omega arith) (sym (p .front-at .ensures) ∙ c .before .before .before .enum-told3 .given .1)
+  undecided =
+      c .before .missing .ensures (omega arith) (omega arith) (sym (p .front-at .ensures) ∙ c .before .before .before .enum-told3 .given .1)
 
   some : 0 < k
   some = omega (arith, undecided .some)

@@ -41,7 +41,8 @@ module _ (c : tie.After-front-at Inv-loop μ-loop) where
   judged f e = sym (ap frontOf (to-end a at (length a) refl)) ∙ sym (c .front-at .ensures) ∙ e
 
   -- any other front than a whole one loses its byte, and those up to r
-  drops : (f : Front) (r : ℕ) → c .front-at .result ≡ f → isWhole f ≡ false → Headless a (at + 1) (length a) r → quietCall a 0 ≡ quietCall (drop r a) r
+  drops : (f : Front) (r : ℕ) → c .front-at .result ≡ f → isWhole f ≡ false → Headless a (at + 1) (length a) r
+      → quietCall a 0 ≡ quietCall (drop r a) r
   drops f r e w h = goes-on ∙ quiet-drops-at a at (omega arith) (ap isWhole (judged f e) ∙ w) ∙ quiet-headless-at a (at + 1) r h
 
 front-at-requires : tie.Need-front-at-requires Inv-loop μ-loop
@@ -88,7 +89,13 @@ returns-2 c =
     let at = l .loop .at in
     let none : drop at a ≡ [] = ap (λ (k : ℕ). drop k a) (let e : at ≡ length a = omega arith in e) ∙ drop-length a in
     record {
-      stop = record { ordered = omega arith; within = omega arith; taken = omega arith; small = omega arith; whole = λ e. absurd (false≢true e) };
+      stop = record {
+        ordered = omega arith;
+        within = omega arith;
+        taken = omega arith;
+        small = omega arith;
+        whole = λ e. absurd (false≢true e);
+      };
       is =
           l .loop .inv .1 .1
           ∙ ap (λ (h : List ℕ). quietCall h at) none

@@ -23,10 +23,15 @@ loop-again : tie.Need-loop-again Inv-loop μ-loop
 loop-again c =
     let l = c .before .before .before in
     let o = l .before .before .args in
-    headless-next (o .s .now) (o .from) (o .to) (l .loop .i) (l .loop .inv) (c .before .before .loop-test .taken) (c .before .head-at .ensures (c .if1 .left))
+    headless-next (o .s .now) (o .from) (o .to) (l .loop .i) (l .loop .inv) (c .before .before .loop-test .taken)
+    (c .before .head-at .ensures (c .if1 .left))
 
 returns-2 : tie.Need-returns-2 Inv-loop μ-loop
-returns-2 c = let h = c .before .loop .inv in record { ordered = omega arith; within = omega arith; none = λ i p q. h .none i p (omega arith) }
+returns-2 c = let h = c .before .loop .inv in record {
+  ordered = omega arith;
+  within = omega arith;
+  none = λ i p q. h .none i p (omega arith);
+}
 
 pub first-head-spec : {M : Type 1} → statement M
 first-head-spec =

@@ -1,4 +1,5 @@
--- `frames::search::heads` meets its contract. The loop's invariant: while none is counted, no place passed so far has a head. Assumes nothing.
+-- `frames::search::heads` meets its contract. The loop's invariant: while none is counted, no place passed so far has a head. Assumes
+-- nothing.
 use borrow.Author.Needs.{needs}
 use mathlib.Core.Path.{_≡_}
 use Prim.Native.Nat.{_+_, _-_, _≤_}
@@ -16,15 +17,22 @@ abbrev μ-loop : tie.MeasureT-loop
 μ-loop s from count₀ i₀ count i = from + blockSize - i
 
 loop-holds : tie.Need-loop-holds Inv-loop μ-loop
-loop-holds c = let o = c .before .args in (omega arith, (omega arith, λ _. headless-none (o .s .now) (o .from) (o .from + blockSize + 1) (omega arith)))
+loop-holds c = let o =
+    c .before .args in (omega arith, (omega arith, λ _. headless-none (o .s .now) (o .from) (o .from + blockSize + 1) (omega arith)))
 
 loop-again : tie.Need-loop-again Inv-loop μ-loop
 loop-again c =
     let l = c .before .before .before .before in
     let o = l .before .before .args in
     let none = l .loop .inv .1 .1 in
-    let h = c .head .ensures in
-    (omega arith, (omega arith, λ z. headless-next (o .s .now) (o .from) (o .from + blockSize + 1) (l .loop .i) (none (omega arith)) (omega arith) (λ e. (omega arith, h .1 (omega arith) e))))
+    let h = c .head .ensures in (
+      omega arith,
+      (
+        omega arith,
+        λ z. headless-next (o .s .now) (o .from) (o .from + blockSize + 1) (l .loop .i) (none (omega arith))
+            (omega arith) (λ e. (omega arith, h .1 (omega arith) e)),
+      ),
+    )
 
 returns : tie.Need-returns Inv-loop μ-loop
 returns c = λ z.

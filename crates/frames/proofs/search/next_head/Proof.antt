@@ -14,7 +14,8 @@ module _ (c : tie.After-first-head) where
   near : Headless (start .args .s .now) (start .args .from) (start .args .to) (c .first-head .result)
   near =
       let o = start .args in
-      headless-farther (o .s .now) (o .from) (c .before .smaller .result) (o .to) (c .first-head .result) (omega arith) (c .first-head .ensures)
+      headless-farther (o .s .now) (o .from) (c .before .smaller .result) (o .to) (c .first-head .result) (omega arith)
+      (c .first-head .ensures)
 
 returns : tie.Need-returns
 returns c = near (c .before)
@@ -26,7 +27,8 @@ returns-2 c =
     let k = c .before .past-blocks .result in
     let r = c .first-head2 .result in
     let o = start p .args in
-    headless-join (o .s .now) (o .from) (o .to) m r (near p) (headless-join (o .s .now) m (o .to) k r (c .before .past-blocks .ensures) (c .first-head2 .ensures))
+    headless-join (o .s .now) (o .from) (o .to) m r (near p)
+    (headless-join (o .s .now) m (o .to) k r (c .before .past-blocks .ensures) (c .first-head2 .ensures))
 
 pub next-head-spec : {M : Type 1} → statement M
 next-head-spec =

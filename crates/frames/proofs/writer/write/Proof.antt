@@ -44,7 +44,9 @@ module _ (c : tie.After-copy) where
   filled = take 6 headed ++ (c .copy .last .1 .0 ++ drop (6 + n - 6) (drop 6 headed))
 
   filled-is : filled ≡ unsummed f ++ drop (headerSize + n) (room start)
-  filled-is = copied f (room start) fits (6 + n - 6) headed (c .copy .last .1 .0) (omega arith) (c .before .before .before .before .write-header .ensures) (c .copy .ensures .1)
+  filled-is =
+      copied f (room start) fits (6 + n - 6) headed (c .copy .last .1 .0) (omega arith)
+      (c .before .before .before .before .write-header .ensures) (c .copy .ensures .1)
 
 returns : tie.Need-returns
 unfolding writtenSize writtenRoom

@@ -9,7 +9,8 @@ use lib.Seq.{slice, length-slice}
 use Rattle.fronts.specs.Frame.{head1, head2, headerSize, sumByte, lengthAt}
 use Rattle.sequences.proofs.Slices.{getD-slice, getD-slice-first}
 use Rattle.fronts.proofs.Looks.{length-seen, sum-seen}
-use Rattle.fronts.proofs.Fronts.{open-none, dead-head1, open-head2, dead-head2, open-high, dead-high, open-length, dead-length, open-sum, dead-sum, whole-sum}
+use Rattle.fronts.proofs.Fronts.{open-none, dead-head1, open-head2, dead-head2, open-high, dead-high, open-length}
+use Rattle.fronts.proofs.Fronts.{dead-length, open-sum, dead-sum, whole-sum}
 use Rattle.fronts.proofs.front.front_within.Statement.{statement}
 use Rattle.fronts.proofs.front.front_within.Tie as tie
 
@@ -33,7 +34,8 @@ module _ (c : tie.Else2) where
   start2 = c .before .before .before .before .before
 
   first : getD (seen start2) 0 0 ≡ head1
-  first = getD-slice-first (start2 .args .from) (start2 .args .to) (all start2) (omega arith) ∙ sym (c .before .byte .ensures) ∙ c .if2 .left
+  first =
+      getD-slice-first (start2 .args .from) (start2 .args .to) (all start2) (omega arith) ∙ sym (c .before .byte .ensures) ∙ c .if2 .left
 
 module _ (c : tie.Else4) where
   abbrev start4 : tie.Start
@@ -47,7 +49,13 @@ module _ (c : tie.Else6) where
   start6 = c .before .before .before .before .before .before .before .before .before .before .before
 
   high : getD (seen start6) 4 0 ≤ 2
-  high = omega (arith, getD-slice (start6 .args .from) (start6 .args .to) 4 (all start6) (omega arith), c .before .byte3 .ensures, c .if6 .left)
+  high =
+      omega (
+        arith,
+        getD-slice (start6 .args .from) (start6 .args .to) 4 (all start6) (omega arith),
+        c .before .byte3 .ensures,
+        c .if6 .left,
+      )
 
 -- past the length
 module _ (c : tie.Else8) where
@@ -111,14 +119,16 @@ returns-8 c =
     let q = p .before .before .before in
     let o = start6 p in
     let announced = c .before .length-at .ensures .0 ∙ length-seen (o .args .from) (o .args .to) (all o) (omega arith) in
-    sym (dead-length (seen o) (first (q .before .before .before)) (second q) (high p) (omega (arith, size o)) (omega (arith, announced, c .if8 .taken)))
+    sym (dead-length (seen o) (first (q .before .before .before)) (second q) (high p) (omega (arith, size o))
+    (omega (arith, announced, c .if8 .taken)))
 
 returns-9 : tie.Need-returns-9
 returns-9 c =
     let e = c .before in
     let p = past e in
     let q = p .before .before .before in
-    sym (open-sum (s e) (first (q .before .before .before)) (second q) (high p) (omega (arith, size (o e))) (omega (arith, announced e)) (omega (arith, announced e, size (o e))))
+    sym (open-sum (s e) (first (q .before .before .before)) (second q) (high p) (omega (arith, size (o e))) (omega (arith, announced e))
+    (omega (arith, announced e, size (o e))))
 
 -- where the sum byte is compared
 module _ (c : tie.After-joined-sum) where
@@ -147,7 +157,8 @@ returns-10 c =
     let p = past e in
     let q = p .before .before .before in
     sym
-    (dead-sum (s e) (first (q .before .before .before)) (second q) (high p) (omega (arith, size (o e))) (omega (arith, announced e)) (omega (arith, announced e, size (o e)))
+    (dead-sum (s e) (first (q .before .before .before)) (second q) (high p) (omega (arith, size (o e))) (omega (arith, announced e))
+    (omega (arith, announced e, size (o e)))
     (λ w. c .if10 .taken (sym (last at) ∙ w ∙ sum at)))
 
 returns-11 : tie.Need-returns-11
@@ -157,7 +168,8 @@ returns-11 c =
     let p = past e in
     let q = p .before .before .before in
     sym
-    (whole-sum (s e) (first (q .before .before .before)) (second q) (high p) (omega (arith, size (o e))) (omega (arith, announced e)) (omega (arith, announced e, size (o e)))
+    (whole-sum (s e) (first (q .before .before .before)) (second q) (high p) (omega (arith, size (o e))) (omega (arith, announced e))
+    (omega (arith, announced e, size (o e)))
     (last at ∙ c .if10 .left ∙ sym (sum at)))
 
 pub front-within-spec : {M : Type 1} → statement M

@@ -15,7 +15,12 @@ returns : tie.Need-returns
 returns c =
     let o = c .before .before .before .before .args in
     let v = o .a .now ++ o .b .now in
-    let short : length (drop (o .from) v) ≤ 4 = omega (arith, c .before .past .ensures, length-drop (o .from) v, length-append (o .a .now) (o .b .now)) in
+    let short : length (drop (o .from) v) ≤ 4 = omega (
+      arith,
+      c .before .past .ensures,
+      length-drop (o .from) v,
+      length-append (o .a .now) (o .b .now),
+    ) in
     let none : (i : ℕ) → 4 ≤ i → getD (drop (o .from) v) i 0 ≡ 0 = λ i h. List·getD-eq-default (drop (o .from) v) 0 {n = i} (omega arith) in
     (sym (ap₂ number16 (none 4 (omega arith)) (none 5 (omega arith))), omega arith)
 

@@ -21,8 +21,11 @@ loop-holds c = (search needs, refl)
 loop-again : tie.Need-loop-again Inv-loop μ-loop
 loop-again c =
     let at = c .before .before .before in
-    let s = at .before .before .args .s .now in
-    (search needs, c .«wrapping-add-u8» .ensures ∙ ap (λ (n : ℕ). (n + getD s (at .loop .i) 0) % 256) (at .loop .inv .1) ∙ sum-next s (at .loop .i) (c .before .before .loop-test .taken))
+    let s = at .before .before .args .s .now in (
+      search needs,
+      c .«wrapping-add-u8» .ensures ∙ ap (λ (n : ℕ). (n + getD s (at .loop .i) 0) % 256) (at .loop .inv .1)
+          ∙ sum-next s (at .loop .i) (c .before .before .loop-test .taken),
+    )
 
 returns : tie.Need-returns Inv-loop μ-loop
 returns c = c .before .loop .inv .1 ∙ ap sumByte (take-all (c .before .loop .i) _ (c .loop-test .left))

@@ -2,7 +2,6 @@
 use borrow.Author.Needs.{needs}
 use mathlib.Core.Path.{sym, _∙_}
 use Prim.Native.Nat.{_-_}
-use native.Mathlib.Omega.{arith}
 use lib.ListN.{length, List·getD-append, List·getD-eq-default}
 use Rattle.sequences.proofs.Slices.{getD-right}
 use Rattle.sequences.proofs.joined.byte.Statement.{statement}

@@ -29,7 +29,8 @@ returns c =
     let out = o .args .out .now in
     let x = ap length (c .before .before .between .ensures) in
     let y = ap length (c .before .second .ensures) in
-    sym (ap (writtenAt out 0) (parts o) ∙ written-past out (first o ++ second o) 0 (omega (arith, x, y, length-append (first o) (second o))))
+    sym (ap (writtenAt out 0) (parts o) ∙ written-past out (first o ++ second o) 0
+    (omega (arith, x, y, length-append (first o) (second o))))
 
 returns-2 : tie.Need-returns-2
 returns-2 c =
@@ -40,7 +41,8 @@ returns-2 c =
     let y = p .before .second .ensures in
     let n = ap length x in
     c .before .before .write2 .ensures
-    ∙ ap₂ (λ (l r : List ℕ). writtenAt l (length (p .before .before .between .result .now)) r) (c .before .before .before .before .before .before .write .ensures) y
+    ∙ ap₂ (λ (l r : List ℕ). writtenAt l (length (p .before .before .between .result .now)) r)
+    (c .before .before .before .before .before .before .write .ensures) y
     ∙ ap (λ (l : List ℕ). writtenAt (writtenAt out 0 l) (length l) (second o)) x
     ∙ written-twice out (first o) (second o) (omega (arith, n, ap length y))
     ∙ ap (writtenAt out 0) (sym (parts o))

@@ -35,7 +35,8 @@ loop-again c =
     let s = a .s .now in
     let room = a .room .now in
     let digits = c .byte .ensures in
-    let next = ap₂ (λ (d : List ℕ) (r : List ℕ). set (set r (2 * l .i) (getD d 0 0)) (2 * l .i + 1) (getD d 1 0)) digits (l .inv .1 .1 .1) ∙ written-next s room (l .i) (omega arith) (l .inv .1 .0) in
+    let next = ap₂ (λ (d : List ℕ) (r : List ℕ). set (set r (2 * l .i) (getD d 0 0)) (2 * l .i + 1) (getD d 1 0)) digits
+    (l .inv .1 .1 .1) ∙ written-next s room (l .i) (omega arith) (l .inv .1 .0) in
     (omega arith, (l .inv .1 .0, (ap length next ∙ length-written s room (l .i + 1) (omega arith) (l .inv .1 .0), next)))
 
 returns-2 : tie.Need-returns-2 Inv-loop μ-loop

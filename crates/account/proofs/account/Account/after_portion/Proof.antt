@@ -18,8 +18,16 @@ returns-2 c =
     let p = ended .before .args .p in
     -- the match's other arm is for `Right` and `Wrong`
     let finished : p .verdict ≡ Unfinished → ⊥ =
-    λ e. elim (ended .match .keys2) [ inl right ↦ (let z : _≡_ {A = ℕ} 0 1 = cc in omega arith) | inr wrong ↦ (let z : _≡_ {A = ℕ} 0 2 = cc in omega arith) ] in
-    record { goes-on = λ e. absurd (finished e); ends = λ _. frame-added refl (c .before .before .line-at .ensures) (c .with-line .ensures) }
+    λ e. elim (ended .match .keys2) [
+      | inl right ↦ (let z : _≡_ {A = ℕ} 0 1 = cc in omega arith)
+      | inr wrong ↦
+          (let z : _≡_ {A = ℕ} 0 2 = cc in omega arith)
+    ] in
+    record {
+      goes-on = λ e. absurd (finished e);
+      ends = λ _. frame-added refl (c .before .before .line-at .ensures)
+          (c .with-line .ensures);
+    }
 
 pub after-portion-spec : {M : Type 1} → statement M
 after-portion-spec =

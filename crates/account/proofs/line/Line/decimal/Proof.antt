@@ -15,7 +15,8 @@ returns : tie.Need-returns
 returns c =
     let o = c .before .before .before .before in
     let d = c .before .before .decimal in
-    adds-decimal (o .args .n) (d .result) (d .last .1 .0) (omega arith) (d .ensures .0 .1) (d .ensures .1 .0) (d .ensures .1 .1) (c .text .ensures)
+    adds-decimal (o .args .n) (d .result) (d .last .1 .0) (omega arith) (d .ensures .0 .1) (d .ensures .1 .0) (d .ensures .1 .1)
+    (c .text .ensures)
 
 pub decimal-spec : {M : Type 1} → statement M
 decimal-spec = tie.close (tie.spec (λ c κs. search needs) (λ c. search needs) (λ c. search needs) text-requires returns)

@@ -8,7 +8,11 @@ returns : tie.Need-returns
 returns c =
     let dropped = c .before .decimal .ensures in
     let whole = adds-both (c .before .before .text .ensures) (adds-both (dropped .adds) (c .put .ensures)) in
-    record { droppedText = dropped .text; is-dropped = dropped .is-decimal; is = from-empty (c .before .before .before .before .empty .ensures .0) whole }
+    record {
+      droppedText = dropped .text;
+      is-dropped = dropped .is-decimal;
+      is = from-empty (c .before .before .before .before .empty .ensures .0) whole;
+    }
 
 pub end-spec : {M : Type 1} → statement M
 end-spec =

@@ -5,9 +5,8 @@ use mathlib.Core.List.{List}
 use Prim.Native.Nat.{ℕ}
 use native.Mathlib.Omega.{arith}
 use lib.ListN.{length, drop}
-use lib.Seq.{slice}
 use Rattle.controller.specs.Calls.{Leaves, fedCall}
-use Rattle.capture.specs.Runs.{freshRoom}
+use Rattle.bench.specs.Calls.{freshRoom}
 use Rattle.capture.proofs.Turns.{passes, length-left}
 use Rattle.capture.proofs.run.Run.feed.Statement.{statement}
 use Rattle.capture.proofs.run.Run.feed.Tie as tie
@@ -30,7 +29,8 @@ returns-2 c =
     let left = begun .behind .ensures ∙ ap (drop (a .self .unfed .at)) (begun .before .front .ensures) in
     let some = ap length left ∙ length-left (a .self .unfed .at) (a .self .unfed .end) (a .input .now) in
     let fed : List ℕ → Type 0 =
-    λ s. Leaves (fedCall s (a .self .record) freshRoom (a .area .now)) (called .feed .result) (called .feed .last .1 .1 .0) (called .feed .last .1 .1 .1 .0) in
+    λ s. Leaves (fedCall s (a .self .record) freshRoom (a .area .now)) (called .feed .result) (called .feed .last .1 .1 .0)
+    (called .feed .last .1 .1 .1 .0) in
     record {
       feeds = λ _. (passes (subst fed left (called .feed .ensures)) (c .after .ensures), refl);
       reads = λ h. absurd (called .before .before .before .before .if1 .left (omega (arith, some)));

@@ -19,7 +19,11 @@ returns-2 c =
     let is = eq-eqb _ _ (c .before .before .before .before .before .before .before .before .before .before .if1 .left) in
     let g = c .before .before .before .before .before .before .before .quiet .ensures in
     let x = c .before .before .before .before .finish .ensures in
-    record { gives = simp (← r, is, ← g) (x .gives); leaves-room = simp (← r, is, ← g) (x .leaves-room); leaves-area = simp (← r, is, ← g) (x .leaves-area) }
+    record {
+      gives = simp (← r, is, ← g) (x .gives);
+      leaves-room = simp (← r, is, ← g) (x .leaves-room);
+      leaves-area = simp (← r, is, ← g) (x .leaves-area);
+    }
 
 pub quiet-spec : {M : Type 1} → statement M
 quiet-spec =

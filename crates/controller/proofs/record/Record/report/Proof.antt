@@ -3,7 +3,7 @@ use borrow.Author.Needs.{needs}
 use mathlib.Core.Path.{sym, _∙_}
 use native.Mathlib.Omega.{arith}
 use Rattle.session.proofs.Lawfuls.{lawful-count}
-use Rattle.session.proofs.Reports.{report-size, report-room}
+use Rattle.boards.proofs.Reports.{report-size, report-room}
 use Rattle.controller.proofs.Refusals.{lawful-record}
 use borrow.Author.Tests.{lt-ltb, le-ltb}
 use Rattle.controller.specs.OutwardReport.{reported, roomReported, reportRefusal}
@@ -17,10 +17,20 @@ returns c =
     record { gives = simp bad; leaves = simp bad }
 
 mul-if2 : tie.Need-mul-if2
-mul-if2 c = omega (arith, lawful-count _ (lawful-record _ (sym (c .before .before .before .unlawful .ensures) ∙ c .before .before .if1 .left) .session))
+mul-if2 c =
+    omega (
+      arith,
+      lawful-count _
+          (lawful-record _ (sym (c .before .before .before .unlawful .ensures) ∙ c .before .before .if1 .left) .session),
+    )
 
 add-if2 : tie.Need-add-if2
-add-if2 c = omega (arith, lawful-count _ (lawful-record _ (sym (c .before .before .before .unlawful .ensures) ∙ c .before .before .if1 .left) .session))
+add-if2 c =
+    omega (
+      arith,
+      lawful-count _
+          (lawful-record _ (sym (c .before .before .before .unlawful .ensures) ∙ c .before .before .if1 .left) .session),
+    )
 
 returns-2 : tie.Need-returns-2
 unfolding reported roomReported reportRefusal
@@ -32,16 +42,17 @@ returns-2 c =
 returns-3 : tie.Need-returns-3
 unfolding reported roomReported reportRefusal
 returns-3 c =
-    let good = sym (c .before .before .before .before .before .before .before .before .unlawful .ensures) ∙ c .before .before .before .before .before .before .before .if1 .left in
-    let wide = c .before .before .before .before .if2 .left in
+    let good = sym (c .before .before .before .before .before .before .before .before .before .unlawful .ensures)
+    ∙ c .before .before .before .before .before .before .before .before .if1 .left in
+    let wide = c .before .before .before .before .before .if2 .left in
     let fits = le-ltb _ _ wide in
-    let o = c .before .before .before .before .before .before .before .before .before .before .args in
+    let o = c .before .before .before .before .before .before .before .before .before .before .before .args in
     let few = lawful-count (o .self .session) (lawful-record (o .self) good .session) in
-    let w = c .before .before .report .ensures in
-    let size = w .gives ∙ report-size (o .self .session) (o .room .now) few wide in
+    let w = c .before .before .write .ensures in
+    let size = w .gives ∙ report-size (o .self .session .boards) (o .self .session .count) (o .room .now) few wide in
     record {
       gives = simp (good, fits, size);
-      leaves = simp (good, fits) (w .leaves ∙ report-room (o .self .session) (o .room .now) few wide);
+      leaves = simp (good, fits) (w .leaves ∙ report-room (o .self .session .boards) (o .self .session .count) (o .room .now) few wide);
     }
 
 pub report-spec : {M : Type 1} → statement M

@@ -9,7 +9,8 @@ returns : tie.Need-returns
 returns c = c .refused .ensures ∙ sym (quieted-refused (c .before .before .args .t1) (c .before .if1 .taken))
 
 returns-2 : tie.Need-returns-2
-returns-2 c = c .quiet-held .ensures ∙ sym (quieted-accepted (c .before .before .before .before .args .t1) (c .before .before .before .if1 .left))
+returns-2 c =
+    c .quiet-held .ensures ∙ sym (quieted-accepted (c .before .before .before .before .args .t1) (c .before .before .before .if1 .left))
 
 pub quiet-spec : {M : Type 1} → statement M
 quiet-spec = tie.close (tie.spec (λ c κs. search needs) returns (λ c κs. search needs) returns-2)

@@ -33,4 +33,5 @@ returns-3 c =
     (simp (le-leb (a .self .stored + length (a .bytes .now)) (length (a .area .now)) (omega arith)), c .before .before .write .ensures)
 
 pub store-spec : {M : Type 1} → statement M
-store-spec = tie.close (tie.spec returns (λ c. search needs) returns-2 (λ c κs. search needs) (λ c. search needs) (λ c. search needs) returns-3)
+store-spec =
+    tie.close (tie.spec returns (λ c. search needs) returns-2 (λ c κs. search needs) (λ c. search needs) (λ c. search needs) returns-3)

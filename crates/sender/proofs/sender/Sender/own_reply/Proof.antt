@@ -1,7 +1,7 @@
 -- `sender::sender::Sender::own_reply` meets its contract. Assumes nothing.
 use borrow.Author.Needs.{needs}
 use mathlib.Core.Path.{ap, _∙_}
-use Rattle.commands.specs.Requests.{channelOf}
+use Rattle.replies.specs.ReplyFields.{replyChannel}
 use Rattle.sender.specs.Replies.{ownReply}
 use Rattle.sender.proofs.sender.Sender.own_reply.Statement.{statement}
 use Rattle.sender.proofs.sender.Sender.own_reply.Tie as tie
@@ -9,7 +9,7 @@ use Rattle.sender.proofs.sender.Sender.own_reply.Tie as tie
 returns : tie.Need-returns
 unfolding ownReply
 returns c =
-    let channel = c .channel .ensures ∙ ap channelOf (c .before .«data» .ensures) in
+    let channel = c .channel .ensures ∙ ap replyChannel (c .before .«data» .ensures) in
     let c1 = c .before .before in
     simp (← c1 .before .before .command-of .ensures, ← c1 .before .is-reply .ensures, c1 .if1 .taken, channel)
 

@@ -8,7 +8,7 @@ use Rattle.crc.specs.Crc.{checksum, crc16-modbus}
 use Rattle.frames.specs.declared.finished.FinishedFrame.{FinishedFrame}
 use Rattle.frames.specs.Finished.{finished}
 use Rattle.commands.specs.Limits.{maxPacket}
-use Rattle.commands.specs.RequestFrames.{dataFD, requestFrame}
+use Rattle.requests.specs.RequestFrames.{dataFD, requestFrame}
 use Rattle.sender.specs.Requests.{nextPacket, sendingOf}
 use Rattle.sender.proofs.Packets.{packet-whole}
 use Rattle.sender.proofs.sender.Sender.sending.Statement.{statement}

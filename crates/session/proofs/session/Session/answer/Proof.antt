@@ -25,7 +25,8 @@ judge-requires c κs = sym (c .before .before .before .before .unlawful .ensures
 returns-3 : tie.Need-returns-3
 unfolding reaction
 returns-3 c =
-    let good = sym (c .before .before .before .before .before .before .before .unlawful .ensures) ∙ c .before .before .before .before .before .before .if1 .left in
+    let good = sym (c .before .before .before .before .before .before .before .unlawful .ensures)
+    ∙ c .before .before .before .before .before .before .if1 .left in
     let same = eq-eqb _ _ (c .before .before .before .before .if2 .left) in
     (rw (good, same) (c .before .before .judge .ensures .0), rw (good, same) (c .before .before .judge .ensures .1))
 

@@ -20,7 +20,8 @@ returns-2 c =
 returns-3 : tie.Need-returns-3
 unfolding judged
 returns-3 c =
-    let h = sym (c .before .before .before .before .before .before .header-of .ensures) ∙ c .before .before .before .before .enum-told3 .given .1 in
+    let h = sym (c .before .before .before .before .before .before .header-of .ensures)
+    ∙ c .before .before .before .before .enum-told3 .given .1 in
     (rw h (c .before .before .route .ensures .0), rw h (c .before .before .route .ensures .1))
 
 pub judge-spec : {M : Type 1} → statement M

@@ -1,0 +1,4 @@
+-- The laws that belong to no one function, by subject.
+mod Lists
+pub mod Places
+pub mod Reports

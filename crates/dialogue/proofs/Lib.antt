@@ -1,0 +1,3 @@
+-- The laws that the functions' own files cite.
+mod Turns
+mod Steps

@@ -1,0 +1,2 @@
+-- The document's examples.
+pub mod Vectors

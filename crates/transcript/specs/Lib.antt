@@ -1,0 +1,3 @@
+-- The definitions that the contracts of `transcript` cite.
+pub mod Words
+pub mod Lines
