@@ -10,6 +10,7 @@ use Rattle.sequences.specs.Padding.{padded}
 use Rattle.sequences.proofs.Conditionals.{of-both}
 use Rattle.image.specs.Checks.{noCheck}
 use Rattle.commands.specs.Limits.{maxReply}
+use Rattle.commands.specs.States.{granted, incompleteFE, neverSentFE, refusedFE}
 use Rattle.replies.specs.Replies.{replyState}
 use Rattle.transfer.specs.declared.phase.Phase.the-variants.{Idle}
 use Rattle.transfer.specs.declared.state.Transfer.{Transfer}
@@ -21,7 +22,7 @@ use Rattle.ending.specs.FE.{answerFE, endedFE}
 
 -- a failed end check: idle, nothing stored, no identity, no check, all else as it was
 pub end-failed : (t : Transfer) → endedFE t false ≡ replied (replaced (withCheck t noCheck) Idle noIdentity)
-    (replyState (t .leg .channel) 3)
+    (replyState (t .leg .channel) refusedFE)
 unfolding endedFE
 end-failed t = refl
 
@@ -35,16 +36,16 @@ abbrev HasState : ℕ → ℕ → Step → Type 0
 HasState channel n x = (x .replies ≡ true) × (x .reply ≡ padded maxReply (replyState channel n))
 
 -- "State 02 of the page is never sent": neither at once nor at the end of the check
-pub never-state-02 : (t : Transfer) (channel : ℕ) → HasState channel 2 (answerFE t channel) → ⊥
+pub never-state-02 : (t : Transfer) (channel : ℕ) → HasState channel neverSentFE (answerFE t channel) → ⊥
 unfolding answerFE
 never-state-02 t channel =
-    let Other : Step → Type 0 = λ x. HasState channel 2 x → ⊥ in
+    let Other : Step → Type 0 = λ x. HasState channel neverSentFE x → ⊥ in
     of-both Other (not (receivingOrDone (t .leg .phase)) || otherChannel t channel) _ _
-    (λ e. let z = state-of channel 3 2 (e .1) in omega arith)
-    (of-both Other (not (eqb (t .progress .stored) (t .image .announced))) _ _ (λ e. let z = state-of channel 1 2 (e .1) in omega arith)
+    (λ e. let z = state-of channel refusedFE neverSentFE (e .1) in omega arith)
+    (of-both Other (not (eqb (t .progress .stored) (t .image .announced))) _ _ (λ e. let z = state-of channel incompleteFE neverSentFE (e .1) in omega arith)
     (λ e. let z : _≡_ {A = ℕ} 0 1 = cc in absurd (omega arith)))
 
-pub never-state-02-at-end : (t : Transfer) (right : Bool) → HasState (t .leg .channel) 2 (endedFE t right) → ⊥
+pub never-state-02-at-end : (t : Transfer) (right : Bool) → HasState (t .leg .channel) neverSentFE (endedFE t right) → ⊥
 unfolding endedFE
-never-state-02-at-end t true e = let z = state-of (t .leg .channel) 0 2 (e .1) in omega arith
-never-state-02-at-end t false e = let z = state-of (t .leg .channel) 3 2 (e .1) in omega arith
+never-state-02-at-end t true e = let z = state-of (t .leg .channel) granted neverSentFE (e .1) in omega arith
+never-state-02-at-end t false e = let z = state-of (t .leg .channel) refusedFE neverSentFE (e .1) in omega arith

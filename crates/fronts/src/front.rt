@@ -5,13 +5,15 @@ use crate::header;
 use crate::sum::joined_sum;
 use sequences::bounds::past;
 use sequences::bounds::smaller;
-use sequences::joined::byte;
+use sequences::number::number16;
 ghost use mathlib.Core.Path.{_≡_};
 ghost use mathlib.Core.List.{_++_};
-ghost use Prim.Native.Nat.{_+_, _≤_};
-ghost use lib.ListN.{length};
+ghost use Prim.Native.Nat.{_+_, _≤_, _<_};
+ghost use lib.ListN.{length, drop, getD};
 ghost use lib.Seq.{slice};
 ghost use Rattle.fronts.specs.declared.front.Front.the-variants.{Open};
+ghost use Rattle.sequences.specs.Numbers.{max16};
+ghost use Rattle.fronts.specs.Frame.{headerSize, lengthAt};
 ghost use Rattle.fronts.specs.Fronts.{frontOf, Missing};
 
 pub enum Front {
@@ -49,25 +51,25 @@ fn front_within(a: &[u8], b: &[u8], from: usize, to: usize) -> Front
     if n < 1 {
         return Front::Open;
     }
-    if byte(a, b, from) != header::HEAD_1 {
+    if byte_at(a, b, from) != header::HEAD_1 {
         return Front::Dead;
     }
     if n < 2 {
         return Front::Open;
     }
-    if byte(a, b, from + 1) != header::HEAD_2 {
+    if byte_at(a, b, from + 1) != header::HEAD_2 {
         return Front::Dead;
     }
     if n < 5 {
         return Front::Open;
     }
-    if header::MAX_HIGH < byte(a, b, from + 4) {
+    if header::MAX_HIGH < byte_at(a, b, from + 4) {
         return Front::Dead;
     }
     if n < header::SIZE {
         return Front::Open;
     }
-    let len = header::length_at(a, b, from);
+    let len = length_there(a, b, from);
     if MAX_DATA < len {
         return Front::Dead;
     }
@@ -75,10 +77,32 @@ fn front_within(a: &[u8], b: &[u8], from: usize, to: usize) -> Front
         return Front::Open;
     }
     let last = from + (header::SIZE + len);
-    if byte(a, b, last) != joined_sum(a, b, from, last) {
+    if byte_at(a, b, last) != joined_sum(a, b, from, last) {
         return Front::Dead;
     }
     Front::Whole
+}
+
+// L, where all of the header is there.
+fn length_there(a: &[u8], b: &[u8], from: usize) -> usize
+    requires { ⌜ from + headerSize ≤ length (now a) + length (now b) ⌝ }
+    ensures { λ r. ⌜ (r ≡ lengthAt (drop from (now (a .entry) ++ now (b .entry)))) × (r < max16) ⌝ }
+{
+    let high = byte_at(a, b, from + 4);
+    let low = byte_at(a, b, from + 5);
+    number16(high, low)
+}
+
+// The byte at i, which is there: no test of a front looks past its bytes, so only which slice has it is asked.
+fn byte_at(a: &[u8], b: &[u8], i: usize) -> u8
+    requires { ⌜ i < length (now a) + length (now b) ⌝ }
+    ensures { λ r. ⌜ r ≡ getD (now (a .entry) ++ now (b .entry)) i 0 ⌝ }
+{
+    let n = a.len();
+    if i < n {
+        return a[i];
+    }
+    b[i - n]
 }
 
 // How many bytes the next test of an open front is short of. No test comes before they are there: whoever feeds may take them at once.

@@ -35,14 +35,14 @@ module _ (c : tie.Else2) where
 
   first : getD (seen start2) 0 0 ≡ head1
   first =
-      getD-slice-first (start2 .args .from) (start2 .args .to) (all start2) (omega arith) ∙ sym (c .before .byte .ensures) ∙ c .if2 .left
+      getD-slice-first (start2 .args .from) (start2 .args .to) (all start2) (omega arith) ∙ sym (c .before .byte-at .ensures) ∙ c .if2 .left
 
 module _ (c : tie.Else4) where
   abbrev start4 : tie.Start
   start4 = c .before .before .before .before .before .before .before .before
 
   second : getD (seen start4) 1 0 ≡ head2
-  second = getD-slice (start4 .args .from) (start4 .args .to) 1 (all start4) (omega arith) ∙ sym (c .before .byte2 .ensures) ∙ c .if4 .left
+  second = getD-slice (start4 .args .from) (start4 .args .to) 1 (all start4) (omega arith) ∙ sym (c .before .byte-at2 .ensures) ∙ c .if4 .left
 
 module _ (c : tie.Else6) where
   abbrev start6 : tie.Start
@@ -53,7 +53,7 @@ module _ (c : tie.Else6) where
       omega (
         arith,
         getD-slice (start6 .args .from) (start6 .args .to) 4 (all start6) (omega arith),
-        c .before .byte3 .ensures,
+        c .before .byte-at3 .ensures,
         c .if6 .left,
       )
 
@@ -69,10 +69,10 @@ module _ (c : tie.Else8) where
   s = seen o
 
   abbrev L : ℕ
-  L = c .before .length-at .result
+  L = c .before .length-there .result
 
   announced : L ≡ lengthAt s
-  announced = c .before .length-at .ensures .0 ∙ length-seen (o .args .from) (o .args .to) (all o) (omega arith)
+  announced = c .before .length-there .ensures .0 ∙ length-seen (o .args .from) (o .args .to) (all o) (omega arith)
 
 returns : tie.Need-returns
 returns c = let o = c .before .before .before in sym (open-none (seen o) (omega (arith, size o)))
@@ -80,7 +80,7 @@ returns c = let o = c .before .before .before in sym (open-none (seen o) (omega 
 returns-2 : tie.Need-returns-2
 returns-2 c =
     let o = c .before .before .before .before .before in
-    let byte = getD-slice-first (o .args .from) (o .args .to) (all o) (omega arith) ∙ sym (c .before .byte .ensures) in
+    let byte = getD-slice-first (o .args .from) (o .args .to) (all o) (omega arith) ∙ sym (c .before .byte-at .ensures) in
     sym (dead-head1 (seen o) (omega (arith, size o)) (λ e. c .if2 .taken (sym byte ∙ e)))
 
 returns-3 : tie.Need-returns-3
@@ -90,7 +90,7 @@ returns-4 : tie.Need-returns-4
 returns-4 c =
     let p = c .before .before .before in
     let o = start2 p in
-    let byte = getD-slice (o .args .from) (o .args .to) 1 (all o) (omega arith) ∙ sym (c .before .byte2 .ensures) in
+    let byte = getD-slice (o .args .from) (o .args .to) 1 (all o) (omega arith) ∙ sym (c .before .byte-at2 .ensures) in
     sym (dead-head2 (seen o) (first p) (omega (arith, size o)) (λ e. c .if4 .taken (sym byte ∙ e)))
 
 returns-5 : tie.Need-returns-5
@@ -103,7 +103,7 @@ returns-6 : tie.Need-returns-6
 returns-6 c =
     let p = c .before .before .before in
     let o = start4 p in
-    let byte = getD-slice (o .args .from) (o .args .to) 4 (all o) (omega arith) ∙ sym (c .before .byte3 .ensures) in
+    let byte = getD-slice (o .args .from) (o .args .to) 4 (all o) (omega arith) ∙ sym (c .before .byte-at3 .ensures) in
     sym (dead-high (seen o) (first (p .before .before .before)) (second p) (omega (arith, size o)) (omega (arith, byte, c .if6 .taken)))
 
 returns-7 : tie.Need-returns-7
@@ -118,7 +118,7 @@ returns-8 c =
     let p = c .before .before .before in
     let q = p .before .before .before in
     let o = start6 p in
-    let announced = c .before .length-at .ensures .0 ∙ length-seen (o .args .from) (o .args .to) (all o) (omega arith) in
+    let announced = c .before .length-there .ensures .0 ∙ length-seen (o .args .from) (o .args .to) (all o) (omega arith) in
     sym (dead-length (seen o) (first (q .before .before .before)) (second q) (high p) (omega (arith, size o))
     (omega (arith, announced, c .if8 .taken)))
 
@@ -138,11 +138,11 @@ module _ (c : tie.After-joined-sum) where
   abbrev from : ℕ
   from = o else8 .args .from
 
-  last : getD (s else8) (headerSize + lengthAt (s else8)) 0 ≡ c .before .byte4 .result
+  last : getD (s else8) (headerSize + lengthAt (s else8)) 0 ≡ c .before .byte-at4 .result
   last =
       ap (λ (n : ℕ). getD (s else8) (headerSize + n) 0) (sym (announced else8))
       ∙ getD-slice from (o else8 .args .to) (headerSize + L else8) (all (o else8)) (omega arith)
-      ∙ sym (c .before .byte4 .ensures)
+      ∙ sym (c .before .byte-at4 .ensures)
 
   sum : sumByte (take (headerSize + lengthAt (s else8)) (s else8)) ≡ c .joined-sum .result
   sum =
@@ -176,6 +176,6 @@ pub front-within-spec : {M : Type 1} → statement M
 front-within-spec =
     tie.close
     (tie.spec
-    (λ c. search needs) returns (λ c κs. search needs) returns-2 returns-3 (λ c. search needs) (λ c κs. search needs) returns-4
-    returns-5 (λ c. search needs) (λ c κs. search needs) returns-6 returns-7 (λ c κs. search needs) returns-8 (λ c. search needs)
-    returns-9 (λ c. search needs) (λ c. search needs) (λ c κs. search needs) (λ c κs. search needs) returns-10 returns-11)
+    (λ c. search needs) returns (λ c κs. omega arith) returns-2 returns-3 (λ c. search needs) (λ c κs. omega arith) returns-4
+    returns-5 (λ c. search needs) (λ c κs. omega arith) returns-6 returns-7 (λ c κs. omega arith) returns-8 (λ c. search needs)
+    returns-9 (λ c. search needs) (λ c. search needs) (λ c κs. omega arith) (λ c κs. search needs) returns-10 returns-11)
