@@ -60,7 +60,7 @@ def first_different_line(got, wanted):
     place = next((i for i, pair in enumerate(zip(got, wanted)) if pair[0] != pair[1]),
                  min(len(got), len(wanted)))
     show = lambda lines: repr(lines[place].decode(errors="replace")) if place < len(lines) else "nothing"
-    return f"line {place + 1}: the program writes {show(got)}, the model {show(wanted)}"
+    return f"line {place + 1}: the program writes {show(got)}, wanted is {show(wanted)}"
 
 
 def keep(file, name):

@@ -9,7 +9,7 @@ use crate::crc::{crc32_over, CRC32_START};
 pub struct EndCheck {
     pub running: bool,
     /// How many bytes of the image it has read.
-    pub read: u32,
+    pub read: u64,
     /// The CRC-32's register after them.
     pub register: u32,
 }
@@ -43,7 +43,7 @@ impl EndCheck {
         let unread = &image[self.read as usize..];
         let count = most.min(unread.len());
         self.register = crc32_over(self.register, &unread[..count]);
-        self.read += count as u32;
+        self.read += count as u64;
         count
     }
 

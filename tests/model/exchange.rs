@@ -3,7 +3,6 @@
 use crate::ends::{Action, Controller, Ends};
 use crate::link::{Event, Link, Travelling, Way};
 use crate::sender;
-use crate::session::Phase;
 use crate::stored::hex;
 use crate::words::Words;
 
@@ -163,21 +162,10 @@ pub fn last_lines(ends: &Ends<'_>, image: &[u8]) -> [String; 3] {
         format!("sender {sender}"),
         format!(
             "controller {}, stored {} of {}",
-            phase_name(controller.phase()),
+            controller.phase().name(),
             controller.stored(),
             image.len()
         ),
         format!("area {area} the image"),
     ]
-}
-
-/// "PHASE: idle, asked, told, receiving, done".
-fn phase_name(phase: Phase) -> &'static str {
-    match phase {
-        Phase::Idle => "idle",
-        Phase::Asked => "asked",
-        Phase::Told => "told",
-        Phase::Receiving => "receiving",
-        Phase::Done => "done",
-    }
 }

@@ -220,7 +220,7 @@ impl Bench {
         let session = self.session();
         let number = session.next_number as u16;
         let left = (session.identity.length - session.stored) as usize;
-        let full = usize::from(session.packet_size).min(left);
+        let full = (session.packet_size as usize).min(left);
         let n = if self.rng.chance(60) { self.rng.between(1, full) } else { full };
         let bytes = self.image_part(n);
         wire::fd(10, number, &bytes)
@@ -320,7 +320,7 @@ impl Bench {
     /// A packet with one to three things wrong, for the order of the checks.
     fn wrong_packet(&mut self) -> Vec<u8> {
         let session = self.session();
-        let (size, next) = (usize::from(session.packet_size), session.next_number);
+        let (size, next) = (session.packet_size as usize, session.next_number);
         let left = session.identity.length.saturating_sub(session.stored) as usize;
         let fitting = left.min(size).clamp(1, 512);
         let mut n = fitting;

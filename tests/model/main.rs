@@ -4,6 +4,18 @@
 //! Build: `rustc -O --edition 2021 main.rs -o model`. See `USAGE` for the modes.
 
 mod check;
+mod console;
+mod console_line;
+mod console_record;
+mod console_sender;
+mod console_stored;
+mod console_stored_ends;
+mod console_stored_frames;
+mod console_stored_legs;
+mod console_stored_records;
+mod console_stored_sender;
+mod console_stored_transfers;
+mod console_tell;
 mod crc;
 mod cross;
 mod ends;
@@ -19,10 +31,21 @@ mod rng;
 mod selftest;
 mod selftest_check;
 mod selftest_check_random;
+mod selftest_console;
 mod selftest_exchange;
 mod selftest_sender;
+mod selftest_sessions;
 mod sender;
 mod session;
+mod sessions;
+mod sessions_kinds;
+mod sessions_lines;
+mod sessions_module;
+mod sessions_openings;
+mod sessions_poke;
+mod sessions_replies;
+mod sessions_sender;
+mod sessions_sender_edges;
 mod stored;
 mod wire;
 mod words;
@@ -45,6 +68,9 @@ model cross WORDS.. < output   another exchange's output against the model's end
                                status 1 and the first line that does not fit
 model exchanges DIR N SEED     N sets of words and the exchange's outputs, into DIR
 model exchange-stored-words    the words of the stored exchange
+model console < session        both ends, call by call
+model console-stored           the stored session
+model sessions DIR N SEED      N sessions and the console's outputs, into DIR
 model selftest                 the self-tests; status 1 if one fails
 ";
 
@@ -85,6 +111,11 @@ fn run(words: &[&str]) -> io::Result<bool> {
         }
         ["exchange-stored-words"] => {
             print((exchanges::stored_words().join("\n") + "\n").as_bytes())?
+        }
+        ["console"] => console::console(io::stdin().lock(), BufWriter::new(io::stdout().lock()))?,
+        ["console-stored"] => print(console_stored::stored().text().as_bytes())?,
+        ["sessions", folder, count, seed] => {
+            sessions(Path::new(folder), number(count)?, number(seed)?)?
         }
         ["selftest"] => return Ok(selftest::run()),
         _ => return Err(bad(USAGE)),
@@ -151,6 +182,19 @@ fn exchanges(folder: &Path, count: u64, seed: u64) -> io::Result<()> {
         let lines: String = set.words.iter().map(|word| format!("{word}\n")).collect();
         fs::write(folder.join(name.clone() + ".words"), lines)?;
         fs::write(folder.join(name + ".expected"), exchange::exchange(&set.read()).0)?;
+    }
+    Ok(())
+}
+
+/// Writes sessions 0 to count - 1, kinds in turn, and the console's outputs.
+fn sessions(folder: &Path, count: u64, seed: u64) -> io::Result<()> {
+    for index in 0..count {
+        let kind = index as usize % sessions::KINDS.len();
+        let seed = seed_of(seed, index);
+        let (session, _) = sessions::session(kind, seed);
+        let name = format!("{index:06}-{}-{seed}", sessions::KINDS[kind].0);
+        fs::write(folder.join(name.clone() + ".session"), &session)?;
+        fs::write(folder.join(name + ".expected"), console::console_bytes(&session))?;
     }
     Ok(())
 }

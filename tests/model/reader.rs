@@ -33,6 +33,13 @@ impl Default for Reader {
 }
 
 impl Reader {
+    /// A reader that holds these bytes, at most 526.
+    pub fn holding(held: &[u8]) -> Self {
+        let mut reader = Reader::default();
+        reader.hold(held);
+        reader
+    }
+
     /// The held bytes.
     pub fn held(&self) -> &[u8] {
         &self.bytes[self.start..self.start + self.len]

@@ -58,7 +58,7 @@ pub struct Report {
 
 impl Report {
     /// "on outcomes 5, 6 and 9 all four are 0".
-    fn refused(outcome: Outcome) -> Self {
+    pub fn refused(outcome: Outcome) -> Self {
         Report { outcome, taken: 0, dropped: 0, command: 0, length: 0, reply: 0 }
     }
 }
@@ -82,6 +82,18 @@ impl Receiver {
         }
         let (reader, session) = (Reader::default(), Session::default());
         Ok(Receiver { boards, area_len, reader, session })
+    }
+
+    /// The record with this list, opened length, held bytes (at most 526) and
+    /// session; refused as opening refuses.
+    pub fn with(
+        boards: &[Board],
+        area_len: usize,
+        held: &[u8],
+        session: Session,
+    ) -> Result<Self, Outcome> {
+        let fresh = Receiver::open(boards, area_len)?;
+        Ok(Receiver { reader: Reader::holding(held), session, ..fresh })
     }
 
     /// A feeding call: takes bytes of `new`, answers at most one frame.

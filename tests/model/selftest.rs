@@ -1,7 +1,7 @@
 //! Self-tests: the bench frames of 01, the check sums, round trips, live
 //! reading against its wording, packets sent again (document 02, K2), the
-//! outcomes a replay cannot show. The end check's (K5), the sender's and the
-//! exchange's have files of their own.
+//! outcomes a replay cannot show. The end check's (K5), the sender's, the
+//! exchange's and the console's have files of their own.
 
 use crate::check::EndCheck;
 use crate::crc::{crc16, crc32, CRC32_START};
@@ -12,6 +12,7 @@ use crate::receiver::{Outcome, Receiver, Report, MAX_AREA, REPLY_ROOM};
 use crate::replay::{bench_receiver, replay_bytes, Replay, BENCH_AREA, BENCH_BOARD};
 use crate::rng::Rng;
 use crate::selftest_check;
+use crate::selftest_console;
 use crate::selftest_exchange;
 use crate::selftest_sender;
 use crate::session::{Board, Identity, Phase, Session, NO_NEXT_NUMBER};
@@ -64,6 +65,7 @@ pub fn run() -> bool {
     selftest_check::run(&mut tally);
     selftest_sender::run(&mut tally);
     selftest_exchange::run(&mut tally);
+    selftest_console::run(&mut tally);
     println!("selftest: {} checks, {} failed", tally.checks, tally.failed);
     tally.failed == 0
 }

@@ -238,7 +238,7 @@ fn unfinished_calls(t: &mut Tally) {
         read += most;
         let register = bitwise_crc32_over(CRC32_START, &image.bytes[..read]);
         let mut wanted = before;
-        wanted.session.check = EndCheck { running: true, read: read as u32, register };
+        wanted.session.check = EndCheck { running: true, read: read as u64, register };
         t.same("read and register", desk.receiver.session.check, wanted.session.check);
         t.holds("all else stays", desk.receiver == wanted);
     }
@@ -474,7 +474,7 @@ fn lawful_checks(t: &mut Tally) {
     check("all but one byte read", true, |s| s.check.read = 59);
     check("the announced length read", false, |s| s.check.read = 60);
     check("more read", false, |s| s.check.read = 61);
-    check("most read", false, |s| s.check.read = u32::MAX);
+    check("most read", false, |s| s.check.read = u64::MAX);
     check("any register", true, |s| s.check.register = 0);
     check("stored is not announced", false, |s| s.stored = 59);
     check("announced is not stored", false, |s| s.identity.length = 61);
@@ -489,7 +489,7 @@ fn lawful_checks(t: &mut Tally) {
     check("no check, stored below announced", true, |s| (s.check, s.stored) = (LEFTOVERS, 59));
     check("no check, idle", true, |s| (s.check, s.phase) = (LEFTOVERS, Phase::Idle));
     check("no check, told", true, |s| (s.check, s.phase) = (LEFTOVERS, Phase::Told));
-    check("no check, most read", true, |s| (s.check.running, s.check.read) = (false, u32::MAX));
+    check("no check, most read", true, |s| (s.check.running, s.check.read) = (false, u64::MAX));
 }
 
 /// An FE that does not get as far as the CRC: its state at once, nothing changes.

@@ -113,7 +113,7 @@ impl Lent {
         let mut unchecked = self.receiver.clone();
         unchecked.session.check = EndCheck::default();
         let unlawful = !unchecked.lawful()
-            || running && read >= announced
+            || running && read >= u64::from(announced)
             || running && session.stored != announced
             || running && session.phase != Phase::Receiving && session.phase != Phase::Done;
         if unlawful {
@@ -137,7 +137,7 @@ impl Lent {
         let bytes = &self.area[read..read + count];
         let register = bitwise_crc32_over(session.check.register, bytes);
         if read + count < announced {
-            let read = (read + count) as u32;
+            let read = (read + count) as u64;
             self.receiver.session.check = EndCheck { running: true, read, register };
             return (Outcome::CheckUnfinished, Portion { count, ..Portion::default() });
         }
@@ -257,7 +257,7 @@ fn random_session(rng: &mut Rng, area: &[u8]) -> Session {
             md5: [1; 16],
             crc32: if rng.chance(700) { crc32(image) } else { rng.next() as u32 },
         },
-        check: EndCheck { running, read, register },
+        check: EndCheck { running, read: u64::from(read), register },
     }
 }
 

@@ -123,7 +123,7 @@ fn taken(t: &mut Tally, what: &str, sender: Sender, reply: &[u8], to: (Decision,
 fn opening(t: &mut Tally) {
     let open = |size, length| Sender::open(Offer { size, ..OFFER }, &vec![7; length]);
     let fresh = |size, length| Sender { offer: Offer { size, ..OFFER }, length, ..all_zero() };
-    for (size, length) in [(16, 1), (65_535, 1), (512, MAX_IMAGE as u32), (513, 40)] {
+    for (size, length) in [(16, 1), (65_535, 1), (512, MAX_IMAGE as u64), (513, 40)] {
         let wanted = (Outcome::Taken, fresh(size, length));
         t.same("opening", open(size, length as usize), wanted);
     }
@@ -175,7 +175,7 @@ fn lawful_records(t: &mut Tally) {
         check("place above length", phase, !looks, |s| s.place = 41);
         check("place 39", phase, true, |s| s.place = 39);
         check("place at length", phase, phase != Phase::Sending, |s| s.place = 40);
-        check("any number", phase, phase != Phase::Sending, |s| s.number = u32::MAX);
+        check("any number", phase, phase != Phase::Sending, |s| s.number = u64::MAX);
     }
     let sending = Phase::Sending;
     check("packet 2 at 32", sending, true, |s| (s.place, s.number) = (32, 2));
@@ -292,7 +292,7 @@ fn large_sizes(t: &mut Tally) {
     }
     let longest = vec![3; MAX_IMAGE];
     let (_, fresh) = Sender::open(OFFER, &longest);
-    let place = MAX_IMAGE as u32 - 16;
+    let place = MAX_IMAGE as u64 - 16;
     let last = Sender { phase: Phase::Sending, place, number: 65_535, ..fresh };
     t.same("the last number", request(&last, &longest), wire::fd(10, 65_535, &[3; 16]));
     let (_, decision, ending) = last.reply(&longest, &fd_reply(0));
@@ -333,7 +333,7 @@ fn taken_replies(t: &mut Tally) {
     taken(t, "FB 00, nothing stored", telling, &fb_reply(10, 0, 0, 0), placing(0));
     for stored in [1, 16, 39, 40] {
         let reply = fb_reply(10, 0, stored, crc32(&image[..stored as usize]));
-        taken(t, &format!("FB 00, stored {stored}"), telling, &reply, placing(stored));
+        taken(t, &format!("FB 00, stored {stored}"), telling, &reply, placing(stored.into()));
     }
     for state in 1..=3 {
         taken(t, &format!("FB 0{state}"), telling, &fb_reply(10, state, 0, 0), given_up);
@@ -507,7 +507,7 @@ fn offsets(t: &mut Tally) {
     let placing = |place| Sender { place, ..in_phase(Phase::Placing) };
     let sending = |place| (Decision::GoOn, Sender { place, ..after(Phase::Sending) });
     for place in [0, 1, 16, 39] {
-        taken(t, "the asked offset", placing(place), &wire::fc(10, place), sending(place));
+        taken(t, "the asked offset", placing(place), &wire::fc(10, place as u32), sending(place));
         taken(t, "gap 17: 0 instead", placing(place), &wire::fc(10, 0), sending(0));
     }
     let ending = (Decision::GoOn, after(Phase::Ending));
@@ -734,7 +734,7 @@ fn any_reply(rng: &mut Rng, sender: &Sender, right: usize) -> Option<Vec<u8>> {
         _ if rng.chance(100) => fb_reply(10, state, 3, 3),
         Phase::Asking => fa_reply(10, u8::from(state == 5)),
         Phase::Telling => fb_reply(10, 0, u32::from(state), 0),
-        Phase::Placing => wire::fc(10, sender.place),
+        Phase::Placing => wire::fc(10, sender.place as u32),
         Phase::Sending => fd_reply(state),
         _ => fe_reply(state),
     };

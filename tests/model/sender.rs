@@ -17,9 +17,9 @@ pub const REQUEST_ROOM: usize = MAX_FRAME;
 /// "the image empty or above 1,048,576": the longest area.
 pub const MAX_IMAGE: usize = MAX_AREA;
 /// "silences told since the request last changed, 0 to 3".
-pub const MAX_SILENCES: u8 = 3;
+pub const MAX_SILENCES: u64 = 3;
 /// "new legs begun since opening, 0 to 3".
-pub const MAX_NEW_LEGS: u8 = 3;
+pub const MAX_NEW_LEGS: u64 = 3;
 
 /// What a call came to.
 #[derive(Clone, Copy, Debug, PartialEq, Eq)]
@@ -101,20 +101,22 @@ pub struct Offer {
     pub size: u16,
 }
 
-/// The record: "in by value and back by value".
+/// The record: "in by value and back by value". Its numbers are wide enough for
+/// every value, lawful or not: place and number "are not looked at in other
+/// phases" than placing and sending, and what stands there then stays.
 #[derive(Clone, Copy, Debug, Default, PartialEq, Eq)]
 pub struct Sender {
     pub offer: Offer,
     /// "the image's length at opening"
-    pub length: u32,
+    pub length: u64,
     pub phase: Phase,
     /// "placing: the offset to ask for. Sending: where in the image the packet to
     /// send begins. Else 0"
-    pub place: u32,
+    pub place: u64,
     /// "sending: that packet's number. Else 0"
-    pub number: u32,
-    pub silences: u8,
-    pub new_legs: u8,
+    pub number: u64,
+    pub silences: u64,
+    pub new_legs: u64,
 }
 
 /// Where a reply or a fourth silence leads.
@@ -122,8 +124,8 @@ enum Step {
     /// Go on, in this phase with this place and number.
     GoOn {
         phase: Phase,
-        place: u32,
-        number: u32,
+        place: u64,
+        number: u64,
     },
     LegOver,
     Done,
@@ -143,7 +145,7 @@ impl Sender {
         if offer.size < MIN_PACKET || image.is_empty() || image.len() > MAX_IMAGE {
             return (Outcome::Misfit, Sender::default());
         }
-        (Outcome::Taken, Sender { offer, length: image.len() as u32, ..Sender::default() })
+        (Outcome::Taken, Sender { offer, length: image.len() as u64, ..Sender::default() })
     }
 
     /// Next request: its length; "the record is only read". "The request stands
@@ -197,7 +199,7 @@ impl Sender {
     pub fn lawful(&self) -> bool {
         self.offer.size >= MIN_PACKET
             && self.length != 0
-            && self.length as usize <= MAX_IMAGE
+            && self.length <= MAX_IMAGE as u64
             && self.silences <= MAX_SILENCES
             && self.new_legs <= MAX_NEW_LEGS
             && match self.phase {
@@ -209,14 +211,14 @@ impl Sender {
 
     /// Number times the packet is at most place; so it has two bytes.
     fn number_fits(&self) -> bool {
-        u64::from(self.number) * self.packet() as u64 <= u64::from(self.place)
+        u128::from(self.number) * self.packet() as u128 <= u128::from(self.place)
     }
 
     /// All calls check 9, then 20.
     fn check_call(&self, image: &[u8]) -> Result<(), Outcome> {
         if !self.lawful() {
             Err(Outcome::BadRecord)
-        } else if image.len() != self.length as usize {
+        } else if image.len() as u64 != self.length {
             Err(Outcome::Misfit)
         } else {
             Ok(())
@@ -247,7 +249,7 @@ impl Sender {
         match self.phase {
             Phase::Asking => wire::fa(channel, self.offer.size),
             Phase::Telling => wire::fb(channel, &self.announced(image)),
-            Phase::Placing => wire::fc(channel, self.place),
+            Phase::Placing => wire::fc(channel, self.place as u32),
             Phase::Sending => wire::fd(channel, self.number as u16, self.packet_bytes(image)),
             Phase::Ending => wire::fe(channel),
             Phase::Done | Phase::GivenUp => Vec::new(),
@@ -258,7 +260,7 @@ impl Sender {
     /// lent image(4)". FB carries none of the image's bytes.
     fn announced(&self, image: &[u8]) -> Image {
         let Offer { pid, version, md5, .. } = self.offer;
-        let (length, crc32) = (self.length, crc32(image));
+        let (length, crc32) = (self.length as u32, crc32(image));
         Image { pid, version, md5, length, crc32, bytes: Vec::new() }
     }
 
@@ -289,7 +291,7 @@ impl Sender {
         if md5.len() != 16 {
             return None;
         }
-        let stored = u32::from_be_bytes([s1, s2, s3, s4]);
+        let stored = u64::from(u32::from_be_bytes([s1, s2, s3, s4]));
         let crc = u32::from_be_bytes([c1, c2, c3, c4]);
         match state {
             0x00 => {
@@ -304,7 +306,7 @@ impl Sender {
     /// Placing: "offset the asked one or 0"; "go on; place the offset, number 0;
     /// sending if place is below length, else ending".
     fn judge_offset(&self, fields: &[u8]) -> Option<Step> {
-        let offset = u32::from_be_bytes(fields.try_into().ok()?);
+        let offset = u64::from(u32::from_be_bytes(fields.try_into().ok()?));
         (offset == self.place || offset == 0).then(|| self.go_on_from(offset, 0))
     }
 
@@ -313,7 +315,7 @@ impl Sender {
     fn judge_packet(&self, image: &[u8], fields: &[u8]) -> Option<Step> {
         match *fields {
             [0x00] => {
-                let n = self.packet_bytes(image).len() as u32;
+                let n = self.packet_bytes(image).len() as u64;
                 Some(self.go_on_from(self.place + n, self.number + 1))
             }
             [0x01..=0x04] => Some(Step::LegOver),
@@ -322,7 +324,7 @@ impl Sender {
     }
 
     /// "sending if place is below length, else ending", where both are 0.
-    fn go_on_from(&self, place: u32, number: u32) -> Step {
+    fn go_on_from(&self, place: u64, number: u64) -> Step {
         if place < self.length {
             Step::GoOn { phase: Phase::Sending, place, number }
         } else {
@@ -360,7 +362,7 @@ fn one_whole_frame(bytes: &[u8]) -> Option<Frame<'_>> {
 }
 
 /// Stored is at most the image's length and `crc` that of its first stored bytes.
-fn is_front(image: &[u8], stored: u32, crc: u32) -> bool {
+fn is_front(image: &[u8], stored: u64, crc: u32) -> bool {
     image.get(..stored as usize).is_some_and(|front| crc32(front) == crc)
 }
 

@@ -3,6 +3,8 @@
 //! 01, "How the session answers", and its tables; document 02, K2, where a
 //! packet is sent again, and K5, where the end check is made in slices.
 
+use std::ops::RangeInclusive;
+
 use crate::check::{EndCheck, Portion, Verdict};
 use crate::crc::{crc16, crc32};
 use crate::frame::{self, Frame};
@@ -17,6 +19,8 @@ pub const MAX_BOARDS: usize = 10;
 pub const MAX_PACKET: u16 = 512;
 /// Len1 below this is refused.
 pub const MIN_PACKET: u16 = 16;
+/// The agreed sizes that outcome 9 allows unless idle: "16 to 512".
+pub const AGREED_SIZES: RangeInclusive<u64> = MIN_PACKET as u64..=MAX_PACKET as u64;
 /// Number, n, CRC-16 and channel before a packet's bytes.
 const PACKET_HEAD: usize = 7;
 /// The next number once packet 65,535 is in: no packet has it.
@@ -78,6 +82,19 @@ pub enum Phase {
     Done,
 }
 
+impl Phase {
+    /// As programs tell it: "idle, asked, told, receiving, done".
+    pub fn name(self) -> &'static str {
+        match self {
+            Phase::Idle => "idle",
+            Phase::Asked => "asked",
+            Phase::Told => "told",
+            Phase::Receiving => "receiving",
+            Phase::Done => "done",
+        }
+    }
+}
+
 /// "the image's identity: channel, version, announced length, MD5, CRC-32";
 /// the PID is no part of it.
 #[derive(Clone, Copy, Debug, Default, PartialEq, Eq)]
@@ -94,7 +111,8 @@ pub struct Identity {
 pub struct Session {
     pub phase: Phase,
     pub channel: u8,
-    pub packet_size: u16,
+    /// The agreed size: 16 to 512, but while idle any number is lawful.
+    pub packet_size: u64,
     pub next_number: u32,
     pub stored: u32,
     /// The length of the packet accepted last in this leg, "0 after FC and
@@ -293,7 +311,7 @@ impl Session {
         }
         self.phase = Phase::Asked;
         self.channel = board.channel;
-        self.packet_size = len1.min(MAX_PACKET);
+        self.packet_size = u64::from(len1.min(MAX_PACKET));
         0
     }
 
@@ -399,7 +417,7 @@ impl Session {
             PacketState::WrongNumber
         } else if usize::from(n) != packet.bytes.len()
             || n == 0
-            || n > self.packet_size
+            || u64::from(n) > self.packet_size
             || u32::from(n) > self.identity.length - self.stored
         {
             PacketState::WrongLength
@@ -478,7 +496,7 @@ impl Session {
             && u32::from(self.last_packet) <= self.stored
             && (self.phase == Phase::Idle
                 || (boards.find(self.channel).is_some()
-                    && (MIN_PACKET..=MAX_PACKET).contains(&self.packet_size)))
+                    && AGREED_SIZES.contains(&self.packet_size)))
             && (!leg_open || announced != 0)
             && (!self.check.running || self.check_lawful())
     }
@@ -487,7 +505,7 @@ impl Session {
     /// more, or runs though stored is not announced or the phase is not receiving
     /// or done."
     fn check_lawful(&self) -> bool {
-        self.check.read < self.identity.length
+        self.check.read < u64::from(self.identity.length)
             && self.stored == self.identity.length
             && self.may_end()
     }

@@ -10,7 +10,7 @@
 //
 // No call asks anything of its caller: any record, any bytes, any room and any memory lent as the area are answered or refused.
 pub mod call;
-mod open;
+pub mod open;
 pub mod portion;
 pub mod record;
 pub mod report;

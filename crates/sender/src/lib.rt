@@ -9,10 +9,10 @@
 // It sees a reply as one whole frame; finding frames in a stream is the frame reader's work. docs/SENDER.md has the exact rules. No
 // version byte, length or offset of a field stands here: they are those of `commands`, `requests` and `replies`.
 pub mod decision;
-mod opening;
+pub mod opening;
 pub mod phase;
 mod reply;
-mod request;
+pub mod request;
 mod rules;
 pub mod sender;
 mod silence;

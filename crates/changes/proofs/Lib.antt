@@ -1,0 +1,3 @@
+-- The laws that the functions' own files cite; and examples.
+mod BoardLists
+pub mod Vectors

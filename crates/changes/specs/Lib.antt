@@ -1,0 +1,4 @@
+-- The definitions that the contracts of `changes` cite.
+pub mod BoardLists
+pub mod RecordChanges
+pub mod SenderChanges

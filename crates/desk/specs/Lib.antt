@@ -1,0 +1,6 @@
+-- The definitions that the contracts of `desk` cite.
+pub mod Desks
+pub mod Lent
+pub mod Telling
+pub mod Effects
+pub mod Obeying

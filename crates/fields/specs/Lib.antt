@@ -1,0 +1,4 @@
+-- The definitions that the contracts of `fields` cite.
+pub mod Choices
+pub mod Fields
+pub mod SenderFields

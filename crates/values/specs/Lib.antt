@@ -1,0 +1,5 @@
+-- The definitions that the contracts of `values` cite.
+pub mod Bytes
+pub mod Spans
+pub mod Words
+pub mod Fields
