@@ -1,4 +1,4 @@
-"""What tests/compare and tests/compare-exchange share: the model, running a program, telling a difference."""
+"""What tests/compare, compare-exchange, compare-console and stored-runs share: the model, running a program, telling a difference."""
 import os
 import pathlib
 import shlex

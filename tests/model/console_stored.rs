@@ -7,6 +7,7 @@
 
 use crate::console_stored_ends as ends;
 use crate::console_stored_frames as frames;
+use crate::console_stored_full as full;
 use crate::console_stored_legs as legs;
 use crate::console_stored_records as records;
 use crate::console_stored_sender as sender;
@@ -109,6 +110,7 @@ pub fn stored() -> Story {
     ends::offsets(s);
     ends::moves(s);
     ends::past_held(s);
+    full::full_packets(s);
     records::list_and_held(s);
     records::numbers(s);
     records::phases(s);

@@ -11,12 +11,12 @@ use crate::stored::hex;
 use crate::wire::{fa, fb, fc, fd, fe, frame, Image};
 
 /// FE that starts a check.
-fn start_check(s: &mut Story, channel: u8) {
+pub fn start_check(s: &mut Story, channel: u8) {
     s.feed(&fe(channel), "0 .. reply=- past=- area=- | checking=1 register=FFFFFFFF");
 }
 
-/// A portion call that gives a verdict.
-fn verdict(s: &mut Story, most: &str, count: usize, right: bool, changes: &str) {
+/// A portion call that gives a verdict, on `SECOND`.
+pub fn verdict(s: &mut Story, most: &str, count: usize, right: bool, changes: &str) {
     let (word, state) = if right { ("right", 0) } else { ("wrong", 3) };
     let reply = hex(&fe_reply(SECOND, state));
     s.line(
@@ -268,12 +268,15 @@ pub fn past_held(s: &mut Story) {
     s.lines(&["room 32"]);
     s.feed(&[], "5 .. |");
     s.line("quiet", "quiet 5 .. |");
+    s.line("portion 1", "portion 5 .. |");
     s.lines(&["room 65536", "area 199"]);
     s.feed(&[], "6 .. |");
     s.line("quiet", "quiet 6 .. |");
+    s.line("portion 1", "portion 6 .. |");
     s.lines(&["area 200", "set next 65537"]);
     s.feed(&[], "9 .. |");
     s.line("quiet", "quiet 9 .. |");
+    s.line("portion 1", "portion 9 .. |");
     s.line("set next 1", "set | next=1");
     s.line("portion 1", "portion 18 .. |");
     s.line("report", "report 0 ..");
@@ -285,6 +288,17 @@ pub fn past_held(s: &mut Story) {
     s.line(
         "portion 4",
         "portion 19 count=4 verdict=unfinished reply=- past=- | read=4 register=..",
+    );
+    s.note("Portions refused while it runs: 9 (read 16 of 16), 6, 5. The rubbish stays.");
+    s.lines(&["set read 16"]);
+    s.line("portion 4", "portion 9 count=0 verdict=unfinished reply=- past=- |");
+    s.lines(&["set read 4", "area 199"]);
+    s.line("portion 4", "portion 6 count=0 verdict=unfinished reply=- past=- |");
+    s.lines(&["area 200", "room 32"]);
+    s.line("portion 4", "portion 5 count=0 verdict=unfinished reply=- past=- |");
+    s.lines(&["room 65536"]);
+    s.note(
+        "Feed and quiet zero it, frames that get 12 too; the portion with the verdict does not.",
     );
     s.feed(&fe(TWIN), "12 taken=8 dropped=1 .. | holding=0 held=0:00 .. 000000");
     s.line(&format!("set held 0 {}EE", hex(&fe(TWIN))), "set | held=0:..");

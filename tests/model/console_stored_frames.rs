@@ -145,6 +145,8 @@ pub fn orders_of_calls(s: &mut Story) {
     s.line("report", "report 9 frame=- past=-");
     s.lines(&["room 36"]);
     s.line("report", "report 9 frame=- past=-");
+    s.note("527 held bytes are 9 for feed, quiet and portion as well.");
+    call(s, 9, 9);
     s.lines(&["set holding 0"]);
     s.line(
         "report",
@@ -261,7 +263,10 @@ pub fn reading(s: &mut Story) {
 }
 
 pub fn bad_lines(s: &mut Story) {
-    s.group("Lines that are no command change nothing; spaces and letter case do not matter.");
+    s.group("Lines that are no command change nothing.");
+    s.note(
+        "A name is at the line's front exactly as in the table, its spaces and letter case too.",
+    );
     let bad = [
         (" quiet", "bad no such command"),
         ("Quiet", "bad no such command"),
@@ -305,6 +310,7 @@ pub fn bad_lines(s: &mut Story) {
     for (line, wanted) in bad {
         s.line(line, wanted);
     }
+    s.note("Right ones: the last places; more spaces than needed, digits of either case.");
     s.lines(&["write area 65535 77", "write room 65535", "write image 1048576 77"]);
     s.line("feed 55aa 00fE0001 0a 08 ", "feed .. command=FE ..");
     s.line("portion   00000000000000000001  ", "portion ..");

@@ -4,7 +4,9 @@
 use crate::console_stored::{
     fa_reply, fb_reply, fd_reply, fe_reply, second_image, Story, BOARDS, SECOND, SECOND_SOFT,
 };
-use crate::console_stored_sender::{no_request, not_taken, open, reply, request, set, silence};
+use crate::console_stored_sender::{
+    all_refused, no_request, not_taken, open, reply, request, set, silence,
+};
 use crate::crc::crc32;
 use crate::stored::hex;
 use crate::wire::{fa, fb, fc, fd, fe, Image};
@@ -60,10 +62,54 @@ pub fn silences_and_legs(s: &mut Story) {
     reply(s, &fe_reply(SECOND, 3), "0 decision=new-leg | phase=asking legs=3");
     set(s, &["phase ending", "silences 1"]);
     reply(s, &fe_reply(SECOND, 1), "0 decision=given-up | phase=given-up silences=0");
+    fourth_silences(s, &image);
+}
+
+/// A fourth silence in the phases that are left, and all that ends the last leg.
+fn fourth_silences(s: &mut Story, image: &Image) {
+    s.note("A fourth silence in telling, in placing and in ending: from FA again, a leg each.");
+    let granted = fa_reply(SECOND, 0, SECOND_SOFT);
+    let told = |count: usize| fb_reply(SECOND, 0, count as u32, crc32(&image.bytes[..count]));
+    let four = |s: &mut Story, changes: &str| {
+        for count in 1..=3 {
+            silence(s, &format!("0 decision=send-again | silences={count}"));
+        }
+        silence(s, &format!("0 decision=new-leg | phase=asking {changes}"));
+    };
+    open(s, 16, "0 | phase=asking legs=0");
+    reply(s, &granted, "0 decision=go-on | phase=telling");
+    four(s, "silences=0 legs=1");
+    reply(s, &granted, "0 decision=go-on | phase=telling");
+    reply(s, &told(16), "0 decision=go-on | phase=placing place=16");
+    four(s, "place=0 silences=0 legs=2");
+    reply(s, &granted, "0 decision=go-on | phase=telling");
+    reply(s, &told(40), "0 decision=go-on | phase=placing place=40");
+    reply(s, &fc(SECOND, 40), "0 decision=go-on | phase=ending place=0");
+    request(s, &fe(SECOND));
+    four(s, "silences=0 legs=3");
+    s.note("Three new legs were begun: a fourth silence gives up in all these phases.");
+    for (phase, place, number, zeroed) in [
+        ("telling", 0, 0, ""),
+        ("placing", 16, 0, "place=0 "),
+        ("sending", 16, 1, "place=0 number=0 "),
+        ("ending", 0, 0, ""),
+    ] {
+        set(s, &[&format!("phase {phase}"), &format!("place {place}")]);
+        set(s, &[&format!("number {number}"), "silences 3"]);
+        silence(s, &format!("0 decision=given-up | phase=given-up {zeroed}silences=0"));
+    }
+    s.note("So do FD 01 to 04, and FE 03.");
+    for state in 1..=4 {
+        set(s, &["phase sending", "place 16", "number 1", "silences 1"]);
+        let changes = "phase=given-up place=0 number=0 silences=0";
+        reply(s, &fd_reply(SECOND, state), &format!("0 decision=given-up | {changes}"));
+    }
+    set(s, &["phase ending"]);
+    reply(s, &fe_reply(SECOND, 3), "0 decision=given-up | phase=given-up");
 }
 
 pub fn edges(s: &mut Story) {
-    s.group("The sender: outcome 9 exactly at its edges. In given-up a silence shows it.");
+    s.group("The sender: outcome 9 exactly at its edges. In done and given-up it comes first too.");
     const MOST: &str = "18446744073709551615";
     let lawful = |s: &mut Story, field: &str| {
         set(s, &[field]);
@@ -142,6 +188,38 @@ pub fn edges(s: &mut Story) {
     broken(s, "place 1048559");
     lawful(s, "place 1048560");
     s.lines(&["image 40"]);
+    s.note("Done and given-up: 9 before 20, and 20 before 5 and 21, for request, reply, silence.");
+    open(s, 16, "0 | length=40 phase=asking place=0 number=0");
+    for phase in ["done", "given-up"] {
+        set(s, &[&format!("phase {phase}")]);
+        ended(s, phase);
+    }
+}
+
+/// The calls of a sender that has ended in this phase, as all refusals meet them.
+fn ended(s: &mut Story, phase: &str) {
+    let right = fe_reply(SECOND, 0);
+    s.lines(&["room 525", "image 39"]);
+    all_refused(s, 20, &right);
+    set(s, &["legs 4"]);
+    all_refused(s, 9, &right);
+    s.lines(&["room 65536", "image 40"]);
+    all_refused(s, 9, &right);
+    set(s, &["legs 0"]);
+    for (broken, back) in [("size 15", "size 16"), ("length 0", "length 40")] {
+        set(s, &[broken]);
+        all_refused(s, 9, &right);
+        set(s, &[back]);
+    }
+    set(s, &["silences 4"]);
+    silence(s, "9 decision=none |");
+    set(s, &["silences 0"]);
+    s.lines(&["image 41"]);
+    all_refused(s, 20, &right);
+    s.lines(&["image 40"]);
+    no_request(s, 0);
+    not_taken(s, &right);
+    silence(s, &format!("0 decision={phase} |"));
 }
 
 pub fn both_ends(s: &mut Story) {

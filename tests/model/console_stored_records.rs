@@ -1,7 +1,8 @@
 //! The stored session: outcome 9 "exactly when", every clause at its edge. `report`
 //! shows it at the least cost: 0 for a lawful record, 9 for another.
 
-use crate::console_stored::Story;
+use crate::console_stored::{fe_reply, Story};
+use crate::stored::hex;
 use crate::wire::{fa, fe};
 
 fn lawful(s: &mut Story, line: &str) {
@@ -80,12 +81,22 @@ pub fn list_and_held(s: &mut Story) {
     lawful(s, "set phase idle");
     s.lines(&["set last 0", "set stored 0", "set announced 0"]);
     edge(s, "opened", &["1", "1048576"], &["0", "1048577", "4294967297", MOST], "1000");
-    s.note("All calls look: a held frame and an opened length of 0.");
-    s.lines(&["set opened 0"]);
+    s.note("All calls look: a frame is held, and the opened length is 0. Then it comes out.");
+    let end = hex(&fe(10));
+    s.line(&format!("set held 0 {end}"), &format!("set | held=0:{end}"));
+    s.lines(&["set holding 8", "set opened 0"]);
     s.feed(&fe(10), "9 taken=0 dropped=0 .. |");
     s.line("quiet", "quiet 9 .. |");
     s.line("portion 1", "portion 9 .. |");
     s.line("set opened 1000", "set | opened=1000");
+    let reply = hex(&fe_reply(10, 3));
+    s.line(
+        "quiet",
+        &format!(
+            "quiet 0 taken=0 dropped=0 command=FE length=1 reply={reply} past=- area=- | \
+             holding=0 held=0:0000000000000000"
+        ),
+    );
 }
 
 pub fn numbers(s: &mut Story) {
@@ -122,7 +133,7 @@ pub fn phases(s: &mut Story) {
     edge(s, "image-channel", &["0", "255", "12"], &[], "10");
     lawful(s, "set phase receiving");
     edge(s, "image-channel", &["0", "255", "12"], &[], "10");
-    s.note("Announced 0: lawful in idle and asked, and 1 everywhere.");
+    s.note("Announced 0: lawful in idle and asked only. Announced 1: in all phases.");
     s.lines(&["set last 0", "set stored 0", "set announced 0"]);
     for (phase, right) in
         [("idle", true), ("asked", true), ("told", false), ("receiving", false), ("done", false)]
@@ -133,7 +144,7 @@ pub fn phases(s: &mut Story) {
         }
     }
     s.lines(&["set announced 1"]);
-    for phase in ["told", "receiving", "done"] {
+    for phase in ["idle", "asked", "told", "receiving", "done"] {
         lawful(s, &format!("set phase {phase}"));
     }
 }
@@ -164,7 +175,7 @@ pub fn checks(s: &mut Story) {
         lawful(s, &format!("set phase {phase}"));
     }
     s.line("quiet", "quiet 1 .. past=- area=- |");
-    s.answered(&fe(10), &crate::console_stored::fe_reply(10, 1), "|");
+    s.answered(&fe(10), &fe_reply(10, 1), "|");
     s.note("A check that starts sets them, whatever they were.");
     s.lines(&["set stored 600"]);
     s.feed(&fe(10), "0 .. reply=- past=- area=- | checking=1 read=0 register=FFFFFFFF");

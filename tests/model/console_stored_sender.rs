@@ -33,6 +33,15 @@ pub fn silence(s: &mut Story, wanted: &str) {
     s.line("sender silence", &format!("sender silence {wanted}"));
 }
 
+/// All three calls refused by this outcome; a reply of no bytes, and this one.
+pub fn all_refused(s: &mut Story, outcome: u8, frame: &[u8]) {
+    no_request(s, outcome);
+    for bytes in [&[], frame] {
+        reply(s, bytes, &format!("{outcome} decision=none |"));
+    }
+    silence(s, &format!("{outcome} decision=none |"));
+}
+
 pub fn set(s: &mut Story, fields: &[&str]) {
     for field in fields {
         s.line(&format!("sender set {field}"), "sender set | ..");
@@ -113,21 +122,16 @@ pub fn opening_and_requests(s: &mut Story) {
     request(s, &fb(SECOND, &changed));
     s.line(&format!("write image 7 {:02X}", image.bytes[7]), "ok");
     s.note("The orders: 9 before 20 before 5; 9 before 20 before 21.");
-    let ask_all = |s: &mut Story, outcome: u8| {
-        no_request(s, outcome);
-        reply(s, &[], &format!("{outcome} decision=none |"));
-        reply(s, &fb_reply(SECOND, 0, 0, 0), &format!("{outcome} decision=none |"));
-        silence(s, &format!("{outcome} decision=none |"));
-    };
+    let told = fb_reply(SECOND, 0, 0, 0);
     s.lines(&["room 525", "image 39"]);
-    ask_all(s, 20);
+    all_refused(s, 20, &told);
     set(s, &["legs 4"]);
-    ask_all(s, 9);
+    all_refused(s, 9, &told);
     s.lines(&["image 40"]);
-    ask_all(s, 9);
+    all_refused(s, 9, &told);
     set(s, &["legs 0"]);
     s.lines(&["image 41"]);
-    ask_all(s, 20);
+    all_refused(s, 20, &told);
     s.lines(&["image 40"]);
     not_taken(s, &[]);
     s.lines(&["room 65536"]);
@@ -145,7 +149,8 @@ pub fn replies(s: &mut Story) {
     for bytes in [&[][..], &granted[..13], &before, &behind, &wrong_sum, &granted.repeat(2)] {
         not_taken(s, bytes);
     }
-    s.note("FA: version byte, command, L, channel, flag 2, Len2 511, 513 and 2.");
+    s.note("FA: version byte, command, L 6 and 8, channel, flag 2; Len2 511, 513, 0, and 00 02,");
+    s.note("which is 512 with its bytes swapped.");
     let data = &granted[6..13];
     let with = |place: usize, byte: u8| {
         let mut data = data.to_vec();
@@ -161,6 +166,7 @@ pub fn replies(s: &mut Story) {
     not_taken(s, &frame(0x00, 0xFA, &[SECOND, 0, 2, 5, 0, 1, 255]));
     not_taken(s, &with(6, 1));
     not_taken(s, &with(5, 0));
+    not_taken(s, &frame(0x00, 0xFA, &[SECOND, 0, 2, 5, 0, 0, 2]));
     s.note("The version is not looked at. Flag 1 gives up, once for all.");
     reply(s, &with(2, 99), "0 decision=go-on | phase=telling");
     set(s, &["phase asking", "silences 2", "legs 1"]);
@@ -168,7 +174,8 @@ pub fn replies(s: &mut Story) {
     not_taken(s, &granted);
     no_request(s, 0);
     silence(s, "0 decision=given-up |");
-    s.note("FB: L, channel, state 4; FA's reply again. States 1 to 3 give up.");
+    s.note("FB: L 25 and 27, version byte, channel, state 4, command: FA's reply again, FC with");
+    s.note("all else as FB's. States 1 to 3 give up.");
     set(s, &["phase telling"]);
     let told = fb_reply(SECOND, 0, 0, 0);
     not_taken(s, &frame(0x10, 0xFB, &told[6..31]));
@@ -177,6 +184,7 @@ pub fn replies(s: &mut Story) {
     not_taken(s, &fb_reply(FIRST, 0, 0, 0));
     not_taken(s, &fb_reply(SECOND, 4, 0, 0));
     not_taken(s, &granted);
+    not_taken(s, &frame(0x10, 0xFC, &told[6..32]));
     for (state, stored) in [(1, 0), (2, 16), (3, u32::MAX)] {
         let refused = fb_reply(SECOND, state, stored, 7);
         reply(s, &refused, "0 decision=given-up | phase=given-up");
@@ -203,13 +211,18 @@ pub fn replies(s: &mut Story) {
     }
     let data = [&[SECOND, 0, 0, 0, 0, 16][..], &crc(16).to_be_bytes(), &[0xA5; 16]].concat();
     reply(s, &frame(0x10, 0xFB, &data), "0 decision=go-on | phase=placing place=16");
-    s.note("FC: the asked offset or 0. Below the length it sends, else it ends.");
+    s.note("FC: the asked offset or 0, else 21; channel, version byte, L 6 and 4; command: FD 00,");
+    s.note("FD with all else as FC's. Below the length it sends, else it ends.");
     request(s, &fc(SECOND, 16));
     not_taken(s, &fc(SECOND, 15));
     not_taken(s, &fc(SECOND, 17));
     not_taken(s, &fc(FIRST, 16));
     not_taken(s, &frame(0x10, 0xFC, &[SECOND, 0, 0, 0, 16]));
     not_taken(s, &frame(0x00, 0xFC, &[SECOND, 0, 0, 0, 16, 0]));
+    not_taken(s, &frame(0x00, 0xFC, &[SECOND, 0, 0, 16]));
+    not_taken(s, &frame(0x00, 0xFC, &[SECOND, 0, 0, 0]));
+    not_taken(s, &fd_reply(SECOND, 0));
+    not_taken(s, &frame(0x00, 0xFD, &[SECOND, 0, 0, 0, 16]));
     reply(s, &fc(SECOND, 16), "0 decision=go-on | phase=sending");
     set(s, &["phase placing", "number 7"]);
     reply(s, &fc(SECOND, 0), "0 decision=go-on | phase=sending place=0 number=0");
@@ -217,13 +230,15 @@ pub fn replies(s: &mut Story) {
     reply(s, &fc(SECOND, 40), "0 decision=go-on | phase=ending place=0");
     set(s, &["phase placing", "place 39"]);
     reply(s, &fc(SECOND, 39), "0 decision=go-on | phase=sending");
-    s.note("FD: state 0 goes on, 1 to 4 end the leg, 5 is none of them.");
+    s.note("FD: state 0 goes on, 1 to 4 end the leg, 5 is none of them; channel, version byte,");
+    s.note("L 1 and 3, command (FE 00): 21.");
     request(s, &fd(SECOND, 0, &image.bytes[39..]));
     not_taken(s, &fd_reply(SECOND, 5));
     not_taken(s, &fd_reply(FIRST, 0));
     not_taken(s, &frame(0x10, 0xFD, &[SECOND, 0]));
     not_taken(s, &frame(0x00, 0xFD, &[SECOND]));
     not_taken(s, &frame(0x00, 0xFD, &[SECOND, 0, 0]));
+    not_taken(s, &fe_reply(SECOND, 0));
     reply(s, &fd_reply(SECOND, 0), "0 decision=go-on | phase=ending place=0");
     set(s, &["legs 0"]);
     for state in 1..=4 {
@@ -234,12 +249,18 @@ pub fn replies(s: &mut Story) {
             "0 decision=new-leg | phase=asking place=0 number=0 silences=0 legs=1",
         );
     }
-    s.note("FE: 0 is done, 1 and 3 end the leg, 2 is never sent.");
+    s.note(
+        "FE: 0 is done, 1 and 3 end the leg, 2 is never sent; channel, version byte, L 1 and 3,",
+    );
+    s.note("command (FD 00): 21.");
     set(s, &["phase ending"]);
     request(s, &fe(SECOND));
     not_taken(s, &fe_reply(SECOND, 2));
     not_taken(s, &fe_reply(SECOND, 4));
     not_taken(s, &fe_reply(FIRST, 0));
+    not_taken(s, &frame(0x10, 0xFE, &[SECOND, 0]));
+    not_taken(s, &frame(0x00, 0xFE, &[SECOND]));
+    not_taken(s, &frame(0x00, 0xFE, &[SECOND, 0, 0]));
     not_taken(s, &fd_reply(SECOND, 0));
     reply(s, &fe_reply(SECOND, 1), "0 decision=new-leg | phase=asking legs=2");
     set(s, &["phase ending"]);

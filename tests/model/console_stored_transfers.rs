@@ -94,9 +94,18 @@ pub fn asking_and_telling(s: &mut Story) {
         whole.crc32
     );
     tell(s, SECOND, &whole, 0, &format!("| phase=told {identity}"));
-    s.note("Told: FB with the identity held, FB with another one; FD 04, FE 03.");
+    s.note("Told: FB with the identity held. A room of 33 bytes: its reply fills it.");
     tell(s, SECOND, &whole, 0, "|");
+    let fill = format!("write room 0 {}", "EE".repeat(34));
+    s.lines(&[&fill, "room 33"]);
+    tell(s, SECOND, &whole, 0, "|");
+    s.note("FB with another identity, and a room of 34 bytes: the last byte stays.");
+    s.lines(&[&fill, "room 34"]);
     tell(s, SECOND, &image, 0, "| version=020501 announced=40");
+    s.lines(&["room 65536"]);
+    s.note("Told: FC and FB 10 on another channel than the session's, FD 04, FE 03.");
+    s.unanswered(10, &fc(FIRST, 0));
+    s.unanswered(10, &fb(FIRST, &first_image()));
     idle_packet(s, 4, &fd(SECOND, 0, &image.bytes[..16]));
     s.answered(&fe(SECOND), &fe_reply(SECOND, 3), "|");
 }
@@ -154,6 +163,17 @@ pub fn packets(s: &mut Story) {
     s.note("A new leg: no packet is sent again in it yet, and none is below number 0.");
     idle_packet(s, 1, &fd(SECOND, 1, &bytes[16..32]));
     idle_packet(s, 1, &fd(SECOND, 65_535, &bytes[16..32]));
+    s.note("The last length is 0: nothing is a packet sent again, not one of no bytes either.");
+    s.note(
+        "Number next - 1, n and L - 7 are 0, CRC-16 right and wrong; the last stored bytes: 01.",
+    );
+    s.lines(&["set next 1"]);
+    idle_packet(s, 1, &fd_raw(SECOND, 0, 0, 0xFFFF, b""));
+    idle_packet(s, 1, &fd_raw(SECOND, 0, 0, 0, b""));
+    idle_packet(s, 1, &fd(SECOND, 0, &bytes[16..32]));
+    s.lines(&["set next 65536"]);
+    idle_packet(s, 1, &fd_raw(SECOND, 65_535, 0, 0xFFFF, b""));
+    s.lines(&["set next 0"]);
     packet(s, SECOND, 0, 32, &bytes[32..], "| next=1 stored=40 last=8");
     idle_packet(s, 0, &fd(SECOND, 0, &bytes[32..]));
     idle_packet(s, 2, &fd(SECOND, 1, b"x"));

@@ -7,10 +7,12 @@ mod check;
 mod console;
 mod console_line;
 mod console_record;
+mod console_runs;
 mod console_sender;
 mod console_stored;
 mod console_stored_ends;
 mod console_stored_frames;
+mod console_stored_full;
 mod console_stored_legs;
 mod console_stored_records;
 mod console_stored_sender;
@@ -70,6 +72,8 @@ model exchanges DIR N SEED     N sets of words and the exchange's outputs, into 
 model exchange-stored-words    the words of the stored exchange
 model console < session        both ends, call by call
 model console-stored           the stored session
+model console-runs             the names of its further stored runs, one per line
+model console-run NAME         the standard input of this one
 model sessions DIR N SEED      N sessions and the console's outputs, into DIR
 model selftest                 the self-tests; status 1 if one fails
 ";
@@ -114,6 +118,16 @@ fn run(words: &[&str]) -> io::Result<bool> {
         }
         ["console"] => console::console(io::stdin().lock(), BufWriter::new(io::stdout().lock()))?,
         ["console-stored"] => print(console_stored::stored().text().as_bytes())?,
+        ["console-runs"] => {
+            let names: String =
+                console_runs::runs().iter().map(|run| format!("{}\n", run.name)).collect();
+            print(names.as_bytes())?
+        }
+        ["console-run", name] => {
+            let runs = console_runs::runs();
+            let run = runs.iter().find(|run| run.name == *name);
+            print(run.ok_or_else(|| bad("no such run"))?.text().as_bytes())?
+        }
         ["sessions", folder, count, seed] => {
             sessions(Path::new(folder), number(count)?, number(seed)?)?
         }

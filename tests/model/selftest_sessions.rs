@@ -4,29 +4,60 @@
 use std::collections::BTreeMap;
 
 use crate::console::{console_bytes, Console};
-use crate::console_stored::{fits, stored};
+use crate::console_runs::{runs, READ};
+use crate::console_stored::{fits, stored, Story};
 use crate::selftest::Tally;
 use crate::sessions::{session, KINDS};
 
 pub fn run(t: &mut Tally) {
     stored_session(t);
+    stored_runs(t);
     generated_sessions(t);
 }
 
 /// What the papers ask for, line by line, is what the console writes.
 fn stored_session(t: &mut Tally) {
+    let counts = told_as_wanted(t, "the stored session", &stored());
+    all_come_up(t, "the stored session", &counts, 1);
+}
+
+/// So are the further runs. Their text has the lines and line ends that it is for.
+fn stored_runs(t: &mut Tally) {
+    for run in runs() {
+        let counts = told_as_wanted(t, run.name, &run.story);
+        let text = run.text().into_bytes();
+        t.same("a newline at the end", text.ends_with(b"\n"), run.ended);
+        let longest = text.split(|&byte| byte == b'\n').map(<[u8]>::len).max();
+        match run.name {
+            "console-long-lines" => {
+                t.same("lines too long", counts.get("bad a-line"), Some(&4));
+                t.same("the longest", longest, Some(200_000));
+            }
+            "console-many-reads" => {
+                t.holds("200,000 bytes", (200_000..220_000).contains(&text.len()));
+                t.holds("middle lines", longest < Some(1_200));
+                let mut ends = (READ..text.len()).step_by(READ);
+                t.holds("each read ends within a line", ends.all(|end| text[end - 1] != b'\n'));
+            }
+            _ => {}
+        }
+    }
+}
+
+/// Every line gets what it wants; what was shown.
+fn told_as_wanted(t: &mut Tally, where_: &str, story: &Story) -> BTreeMap<String, usize> {
     let mut console = Console::default();
     let mut counts = BTreeMap::new();
-    let story = stored();
     for (index, entry) in story.entries.iter().enumerate() {
         let told = console.line(entry.line.as_bytes()).unwrap_or_default();
         count(&mut counts, &told);
         let wanted = entry.wanted.as_deref().unwrap_or("");
         let rest = told.strip_prefix(&format!("{} ", index + 1)).unwrap_or(&told);
         let right = fits(rest.trim_end_matches('\n'), wanted);
-        t.holds(&format!("line {}: {} wants {wanted}", index + 1, entry.line), right);
+        let shown = &entry.line[..entry.line.len().min(2_000)];
+        t.holds(&format!("{where_}, line {}: {shown} wants {wanted}", index + 1), right);
     }
-    all_come_up(t, "the stored session", &counts, 1);
+    counts
 }
 
 /// Sessions of all kinds: the text alone gives what the mirror wrote while it was
@@ -65,7 +96,7 @@ fn all_come_up(t: &mut Tally, where_: &str, counts: &BTreeMap<String, usize>, le
         for what in rest.split_whitespace() {
             let what = format!("{call} {what}");
             let often = counts.get(&what).copied().unwrap_or(0);
-            let long_line = least == 1 && what == "bad a-line"; // too long for a stored file
+            let long_line = least == 1 && what == "bad a-line"; // a run of its own has it
             t.holds(&format!("{what} comes up in {where_}"), long_line || often >= least);
         }
     }

@@ -1,7 +1,7 @@
 // What the console answers: the lines of docs/CONSOLE.md, in parts that are put one behind the other. Each is put behind those that wait
 // for standard output, in the buffer that the caller lends.
 //
-// - `begun`, `outcome`: the line's number and the command's name; a call's outcome.
+// - `begun`: the line's number and the command's name.
 // - `called`, `portioned`, `framed`, `decided`: what a call gave, and what it did to the memories that it was lent.
 // - `changed`, `sender_changed`: what changed in a record, which ends the line; `ended`: the line's end.
 use changes::record::record;

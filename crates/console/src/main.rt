@@ -40,7 +40,7 @@ fn main() {
         &mut kept_area,
         &mut out,
     );
-    report(run, &out);
+    finish(run, &out);
 }
 
 // Turns until the session is over. A proved loop has to end, and nothing says that the input does: the turns are counted down from a
@@ -76,12 +76,12 @@ fn session(
     run
 }
 
-fn report(run: Run, out: &[u8; SIZE]) {
+// What is left to write and to say once the session is over.
+fn finish(run: Run, out: &[u8; SIZE]) {
     let output = run.desk.output;
     let written = output.flush(out);
     if written.failed {
         complain(b"console: cannot write to standard output\n");
-        return;
     }
     if run.lines.failed {
         complain(b"console: cannot read standard input\n");

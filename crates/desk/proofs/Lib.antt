@@ -1,2 +1,3 @@
 -- The laws behind `desk`.
 mod Tellings
+mod Doings

@@ -4,3 +4,4 @@ pub mod Lent
 pub mod Telling
 pub mod Effects
 pub mod Obeying
+pub mod Runs

@@ -1,13 +1,11 @@
 -- Lines of docs/CONSOLE.md's grammar, by computation from the definitions. Assumes nothing.
 use mathlib.Core.Path.{_≡_, refl}
-use mathlib.Core.List.{[], _∷_, map}
-use lib.ListN.{take}
+use mathlib.Core.List.{[], _∷_}
 use Rattle.sequences.specs.Comparing.{same}
 use Rattle.sequences.specs.Search.{find}
 use Rattle.text.specs.Ascii.{ascii}
 use Rattle.text.specs.Decimals.{decimalWithin}
 use Rattle.text.specs.Outputs.{asOne}
-use Rattle.phrases.specs.declared.table.Row.{Row}
 use Rattle.phrases.specs.declared.phrase.Trouble.the-variants.{Unknown, FirstNumber, SecondNumber, More, Digits, Count}
 use Rattle.phrases.specs.Spaces.{frontCount}
 use Rattle.phrases.specs.Table.{commandTable, rowCount, commandRow}
@@ -17,6 +15,7 @@ use Rattle.phrases.specs.Pairs.{hexOf, arePairs, bytesIn}
 use Rattle.phrases.specs.Phrases.{troubleBehindNumbers, troubleBehindName, fine, troubled, phraseWith, taken, phraseBehindName}
 use Rattle.phrases.specs.Phrases.{bytesBehindName, phraseOf, bytesOf}
 use Rattle.phrases.specs.Messages.{troubleTexts}
+use Rattle.phrases.specs.Places.{PlacesNamed}
 
 -- the command's place in the table, its numbers, how many bytes
 pub record GoodLines : Type 0 where
@@ -42,13 +41,6 @@ pub record BadLines : Type 0 where
   pub half : phraseOf (ascii "feed 5 5") ≡ troubled 8 Digits
   pub fewer : phraseOf (ascii "set version 0102") ≡ troubled 28 Count
   pub no-bytes : bytesOf (ascii "set version 0102") ≡ []
-
--- "A new command's name never begins with another's": each is found at its own place
-pub record NamesApart : Type 0 where
-  pub places : map (λ (r : Row). commandPlace (take (r .1) (r .0))) commandTable
-      ≡ 0 ∷ 1 ∷ 2 ∷ 3 ∷ 4 ∷ 5 ∷ 6 ∷ 7 ∷ 8 ∷ 9 ∷ 10 ∷ 11 ∷ 12 ∷ 13 ∷ 14 ∷ 15 ∷ 16 ∷ 17 ∷ 18 ∷ 19 ∷ 20 ∷ 21 ∷ 22 ∷ 23 ∷ 24 ∷ 25 ∷
-      26 ∷ 27 ∷ 28 ∷ 29 ∷ 30 ∷ 31 ∷ 32 ∷ 33 ∷ 34 ∷ 35 ∷ 36 ∷ 37 ∷ 38 ∷ 39 ∷ 40 ∷ 41 ∷ 42 ∷ 43 ∷ 44 ∷ 45 ∷ 46 ∷ 47 ∷ 48 ∷ 49 ∷
-      50 ∷ 51 ∷ 52 ∷ 53 ∷ 54 ∷ 55 ∷ 56 ∷ 57 ∷ []
 
 pub record MessageExamples : Type 0 where
   pub number : asOne (troubleTexts (troubled 0 FirstNumber)) ≡ ascii "number 1 is 0 to 65536"
@@ -87,9 +79,69 @@ bad-lines =
       no-bytes = refl;
     }
 
-pub names-apart : NamesApart
+pub places-named : PlacesNamed
 unfolding commandPlace isNamed find same commandRow commandTable
-names-apart = record { places = refl }
+places-named =
+    record {
+      at-room = refl;
+      at-area = refl;
+      at-image = refl;
+      at-write-room = refl;
+      at-write-area = refl;
+      at-write-image = refl;
+      at-board = refl;
+      at-open = refl;
+      at-feed = refl;
+      at-quiet = refl;
+      at-portion = refl;
+      at-report = refl;
+      at-show = refl;
+      at-set-boards = refl;
+      at-set-board = refl;
+      at-set-opened = refl;
+      at-set-holding = refl;
+      at-set-held = refl;
+      at-set-phase-idle = refl;
+      at-set-phase-asked = refl;
+      at-set-phase-told = refl;
+      at-set-phase-receiving = refl;
+      at-set-phase-done = refl;
+      at-set-channel = refl;
+      at-set-agreed = refl;
+      at-set-next = refl;
+      at-set-stored = refl;
+      at-set-image-channel = refl;
+      at-set-version = refl;
+      at-set-announced = refl;
+      at-set-md5 = refl;
+      at-set-crc = refl;
+      at-set-last = refl;
+      at-set-checking = refl;
+      at-set-read = refl;
+      at-set-register = refl;
+      at-sender-open = refl;
+      at-sender-request = refl;
+      at-sender-reply = refl;
+      at-sender-silence = refl;
+      at-sender-show = refl;
+      at-sender-set-channel = refl;
+      at-sender-set-pid = refl;
+      at-sender-set-version = refl;
+      at-sender-set-md5 = refl;
+      at-sender-set-size = refl;
+      at-sender-set-length = refl;
+      at-sender-set-phase-asking = refl;
+      at-sender-set-phase-telling = refl;
+      at-sender-set-phase-placing = refl;
+      at-sender-set-phase-sending = refl;
+      at-sender-set-phase-ending = refl;
+      at-sender-set-phase-done = refl;
+      at-sender-set-phase-given-up = refl;
+      at-sender-set-place = refl;
+      at-sender-set-number = refl;
+      at-sender-set-silences = refl;
+      at-sender-set-legs = refl;
+    }
 
 pub message-examples : MessageExamples
 unfolding commandRow commandTable decimalWithin

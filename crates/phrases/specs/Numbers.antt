@@ -1,5 +1,5 @@
--- docs/CONSOLE.md, "Lines": "One space or more stands before each number." "A number is decimal: 1 to 20 digits, 0 to
--- 18,446,744,073,709,551,615 unless the table says less." Assumes nothing.
+-- docs/CONSOLE.md, "Lines": "One space or more stands before each number." A number is "decimal: all the digits that stand there, 1 to 20
+-- of them; 0 to 18,446,744,073,709,551,615 unless the table says less". Assumes nothing.
 use mathlib.Core.Bool.{Bool, true, false, cond}
 use mathlib.Core.List.{List, [], _∷_}
 use Prim.Native.Nat.{ℕ, _+_, _*_}
@@ -31,7 +31,7 @@ numberOf most end digits =
     let n = valueBehind 0 digits in
     cond (ltb most n) bad (record { «is_bad» = false; value = n; end = end })
 
--- "that number is missing, is none, has more than 20 digits, or is above M": behind spaces, as many digits as stand there
+-- "no space and digit stand there, or more than 20 digits, or the number is above M"
 unfoldable pub numberIn : ℕ → List ℕ → Number
 numberIn most s =
     let start = spaces s in

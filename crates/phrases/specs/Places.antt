@@ -1,5 +1,8 @@
 -- The places of the commands in the table of docs/CONSOLE.md. Assumes nothing.
+use mathlib.Core.Path.{_≡_}
 use Prim.Native.Nat.{ℕ}
+use Rattle.text.specs.Ascii.{ascii}
+use Rattle.phrases.specs.Names.{commandPlace}
 
 abbrev pub roomAt : ℕ
 roomAt = 0
@@ -174,3 +177,64 @@ senderSetSilencesAt = 56
 
 abbrev pub senderSetLegsAt : ℕ
 senderSetLegsAt = 57
+
+-- the claim: each stands at the place where its name is found. So no name begins with another's and a space
+pub record PlacesNamed : Type 0 where
+  pub at-room : commandPlace (ascii "room") ≡ roomAt
+  pub at-area : commandPlace (ascii "area") ≡ areaAt
+  pub at-image : commandPlace (ascii "image") ≡ imageAt
+  pub at-write-room : commandPlace (ascii "write room") ≡ writeRoomAt
+  pub at-write-area : commandPlace (ascii "write area") ≡ writeAreaAt
+  pub at-write-image : commandPlace (ascii "write image") ≡ writeImageAt
+  pub at-board : commandPlace (ascii "board") ≡ boardAt
+  pub at-open : commandPlace (ascii "open") ≡ openAt
+  pub at-feed : commandPlace (ascii "feed") ≡ feedAt
+  pub at-quiet : commandPlace (ascii "quiet") ≡ quietAt
+  pub at-portion : commandPlace (ascii "portion") ≡ portionAt
+  pub at-report : commandPlace (ascii "report") ≡ reportAt
+  pub at-show : commandPlace (ascii "show") ≡ showAt
+  pub at-set-boards : commandPlace (ascii "set boards") ≡ setBoardsAt
+  pub at-set-board : commandPlace (ascii "set board") ≡ setBoardAt
+  pub at-set-opened : commandPlace (ascii "set opened") ≡ setOpenedAt
+  pub at-set-holding : commandPlace (ascii "set holding") ≡ setHoldingAt
+  pub at-set-held : commandPlace (ascii "set held") ≡ setHeldAt
+  pub at-set-phase-idle : commandPlace (ascii "set phase idle") ≡ setPhaseIdleAt
+  pub at-set-phase-asked : commandPlace (ascii "set phase asked") ≡ setPhaseAskedAt
+  pub at-set-phase-told : commandPlace (ascii "set phase told") ≡ setPhaseToldAt
+  pub at-set-phase-receiving : commandPlace (ascii "set phase receiving") ≡ setPhaseReceivingAt
+  pub at-set-phase-done : commandPlace (ascii "set phase done") ≡ setPhaseDoneAt
+  pub at-set-channel : commandPlace (ascii "set channel") ≡ setChannelAt
+  pub at-set-agreed : commandPlace (ascii "set agreed") ≡ setAgreedAt
+  pub at-set-next : commandPlace (ascii "set next") ≡ setNextAt
+  pub at-set-stored : commandPlace (ascii "set stored") ≡ setStoredAt
+  pub at-set-image-channel : commandPlace (ascii "set image-channel") ≡ setImageChannelAt
+  pub at-set-version : commandPlace (ascii "set version") ≡ setVersionAt
+  pub at-set-announced : commandPlace (ascii "set announced") ≡ setAnnouncedAt
+  pub at-set-md5 : commandPlace (ascii "set md5") ≡ setMd5At
+  pub at-set-crc : commandPlace (ascii "set crc") ≡ setCrcAt
+  pub at-set-last : commandPlace (ascii "set last") ≡ setLastAt
+  pub at-set-checking : commandPlace (ascii "set checking") ≡ setCheckingAt
+  pub at-set-read : commandPlace (ascii "set read") ≡ setReadAt
+  pub at-set-register : commandPlace (ascii "set register") ≡ setRegisterAt
+  pub at-sender-open : commandPlace (ascii "sender open") ≡ senderOpenAt
+  pub at-sender-request : commandPlace (ascii "sender request") ≡ senderRequestAt
+  pub at-sender-reply : commandPlace (ascii "sender reply") ≡ senderReplyAt
+  pub at-sender-silence : commandPlace (ascii "sender silence") ≡ senderSilenceAt
+  pub at-sender-show : commandPlace (ascii "sender show") ≡ senderShowAt
+  pub at-sender-set-channel : commandPlace (ascii "sender set channel") ≡ senderSetChannelAt
+  pub at-sender-set-pid : commandPlace (ascii "sender set pid") ≡ senderSetPidAt
+  pub at-sender-set-version : commandPlace (ascii "sender set version") ≡ senderSetVersionAt
+  pub at-sender-set-md5 : commandPlace (ascii "sender set md5") ≡ senderSetMd5At
+  pub at-sender-set-size : commandPlace (ascii "sender set size") ≡ senderSetSizeAt
+  pub at-sender-set-length : commandPlace (ascii "sender set length") ≡ senderSetLengthAt
+  pub at-sender-set-phase-asking : commandPlace (ascii "sender set phase asking") ≡ senderSetPhaseAskingAt
+  pub at-sender-set-phase-telling : commandPlace (ascii "sender set phase telling") ≡ senderSetPhaseTellingAt
+  pub at-sender-set-phase-placing : commandPlace (ascii "sender set phase placing") ≡ senderSetPhasePlacingAt
+  pub at-sender-set-phase-sending : commandPlace (ascii "sender set phase sending") ≡ senderSetPhaseSendingAt
+  pub at-sender-set-phase-ending : commandPlace (ascii "sender set phase ending") ≡ senderSetPhaseEndingAt
+  pub at-sender-set-phase-done : commandPlace (ascii "sender set phase done") ≡ senderSetPhaseDoneAt
+  pub at-sender-set-phase-given-up : commandPlace (ascii "sender set phase given-up") ≡ senderSetPhaseGivenUpAt
+  pub at-sender-set-place : commandPlace (ascii "sender set place") ≡ senderSetPlaceAt
+  pub at-sender-set-number : commandPlace (ascii "sender set number") ≡ senderSetNumberAt
+  pub at-sender-set-silences : commandPlace (ascii "sender set silences") ≡ senderSetSilencesAt
+  pub at-sender-set-legs : commandPlace (ascii "sender set legs") ≡ senderSetLegsAt
