@@ -1,14 +1,12 @@
 //! The model: an independent receiver and sender written from document 01 and
-//! 02's K1 to K3 and K5, their programs, and what to compare other ones with.
+//! 02's K1 to K3 and K5, their programs, and what to compare other ones with. The
+//! program `console` has a receiver and a sender of its own.
 //!
 //! Build: `rustc -O --edition 2021 main.rs -o model`. See `USAGE` for the modes.
 
 mod check;
 mod console;
-mod console_line;
-mod console_record;
 mod console_runs;
-mod console_sender;
 mod console_stored;
 mod console_stored_ends;
 mod console_stored_frames;
@@ -17,7 +15,6 @@ mod console_stored_legs;
 mod console_stored_records;
 mod console_stored_sender;
 mod console_stored_transfers;
-mod console_tell;
 mod crc;
 mod cross;
 mod ends;
@@ -34,7 +31,14 @@ mod selftest;
 mod selftest_check;
 mod selftest_check_random;
 mod selftest_console;
+mod selftest_console_frames;
+mod selftest_console_lines;
+mod selftest_console_reading;
+mod selftest_console_sending;
+mod selftest_console_slices;
+mod selftest_console_unlawful;
 mod selftest_exchange;
+mod selftest_receivers;
 mod selftest_sender;
 mod selftest_sessions;
 mod sender;
@@ -116,7 +120,7 @@ fn run(words: &[&str]) -> io::Result<bool> {
         ["exchange-stored-words"] => {
             print((exchanges::stored_words().join("\n") + "\n").as_bytes())?
         }
-        ["console"] => console::console(io::stdin().lock(), BufWriter::new(io::stdout().lock()))?,
+        ["console"] => console::console(),
         ["console-stored"] => print(console_stored::stored().text().as_bytes())?,
         ["console-runs"] => {
             let names: String =

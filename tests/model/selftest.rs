@@ -1,7 +1,8 @@
 //! Self-tests: the bench frames of 01, the check sums, round trips, live
 //! reading against its wording, packets sent again (document 02, K2), the
 //! outcomes a replay cannot show. The end check's (K5), the sender's, the
-//! exchange's and the console's have files of their own.
+//! exchange's, the console's and that of the two receivers have files of their
+//! own.
 
 use crate::check::EndCheck;
 use crate::crc::{crc16, crc32, CRC32_START};
@@ -14,6 +15,7 @@ use crate::rng::Rng;
 use crate::selftest_check;
 use crate::selftest_console;
 use crate::selftest_exchange;
+use crate::selftest_receivers;
 use crate::selftest_sender;
 use crate::session::{Board, Identity, Phase, Session, NO_NEXT_NUMBER};
 use crate::stored::{hex, stored};
@@ -66,6 +68,7 @@ pub fn run() -> bool {
     selftest_sender::run(&mut tally);
     selftest_exchange::run(&mut tally);
     selftest_console::run(&mut tally);
+    selftest_receivers::run(&mut tally);
     println!("selftest: {} checks, {} failed", tally.checks, tally.failed);
     tally.failed == 0
 }

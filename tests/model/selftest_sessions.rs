@@ -3,7 +3,7 @@
 
 use std::collections::BTreeMap;
 
-use crate::console::{console_bytes, Console};
+use crate::console::{answer, bench::Bench, console_bytes};
 use crate::console_runs::{runs, READ};
 use crate::console_stored::{fits, stored, Story};
 use crate::selftest::Tally;
@@ -46,16 +46,16 @@ fn stored_runs(t: &mut Tally) {
 
 /// Every line gets what it wants; what was shown.
 fn told_as_wanted(t: &mut Tally, where_: &str, story: &Story) -> BTreeMap<String, usize> {
-    let mut console = Console::default();
+    let mut bench = Bench::new();
     let mut counts = BTreeMap::new();
-    for (index, entry) in story.entries.iter().enumerate() {
-        let told = console.line(entry.line.as_bytes()).unwrap_or_default();
+    for (number, entry) in (1..).zip(&story.entries) {
+        let told = answer(&mut bench, number, entry.line.as_bytes()).unwrap_or_default();
         count(&mut counts, &told);
         let wanted = entry.wanted.as_deref().unwrap_or("");
-        let rest = told.strip_prefix(&format!("{} ", index + 1)).unwrap_or(&told);
+        let rest = told.strip_prefix(&format!("{number} ")).unwrap_or(&told);
         let right = fits(rest.trim_end_matches('\n'), wanted);
         let shown = &entry.line[..entry.line.len().min(2_000)];
-        t.holds(&format!("{where_}, line {}: {shown} wants {wanted}", index + 1), right);
+        t.holds(&format!("{where_}, line {number}: {shown} wants {wanted}"), right);
     }
     counts
 }

@@ -1,10 +1,10 @@
 //! Seeded sessions for the program `console`, sound and hostile.
 //!
-//! A `Script` is a session being written. Every line of it also goes to a console
-//! of its own (the mirror), so that a kind knows the records and can mostly do the
+//! A `Script` is a session being written. Every line of it also goes to a bench of
+//! its own (the mirror), so that a kind knows the records and can mostly do the
 //! sensible next thing.
 
-use crate::console::Console;
+use crate::console::{self, bench::Bench};
 use crate::rng::Rng;
 use crate::sessions_kinds as kinds;
 use crate::sessions_lines;
@@ -37,7 +37,8 @@ pub fn session(kind: usize, seed: u64) -> (Vec<u8>, String) {
 /// A session being written, and its mirror.
 pub struct Script {
     pub rng: Rng,
-    pub console: Console,
+    /// The mirror: what the console holds after these lines.
+    pub bench: Bench,
     pub text: Vec<u8>,
     /// What the mirror wrote.
     pub told: String,
@@ -49,14 +50,7 @@ pub struct Script {
 impl Script {
     pub fn new(mut rng: Rng) -> Self {
         let wanted = rng.between(10, 80);
-        Script {
-            rng,
-            console: Console::default(),
-            text: Vec::new(),
-            told: String::new(),
-            lines: 0,
-            wanted,
-        }
+        Script { rng, bench: Bench::new(), text: Vec::new(), told: String::new(), lines: 0, wanted }
     }
 
     pub fn goes_on(&self) -> bool {
@@ -68,7 +62,7 @@ impl Script {
         self.text.extend_from_slice(line);
         self.text.push(b'\n');
         self.lines += 1;
-        let told = self.console.line(line).unwrap_or_default();
+        let told = console::answer(&mut self.bench, self.lines as u64, line).unwrap_or_default();
         self.told.push_str(&told);
         told
     }
@@ -106,8 +100,8 @@ impl Script {
 
     /// A portion call: none, few, as many as are left, or more.
     pub fn portion(&mut self) {
-        let record = &self.console.record;
-        let left = record.announced.saturating_sub(record.read);
+        let record = &self.bench.record;
+        let left = record.identity.announced.saturating_sub(record.check.read);
         let some = self.rng.below(left.clamp(1, 65_536) as usize + 1) as u64;
         let above = left.saturating_add(1);
         let choices = [0, 1, some, some, left.saturating_sub(1), left, left, above, u64::MAX];

@@ -1,7 +1,7 @@
 //! Kinds of random sessions over the controller's calls.
 
+use crate::console::record::Phase;
 use crate::rng::Rng;
-use crate::session::Phase;
 use crate::sessions::Script;
 use crate::sessions_module::Module;
 use crate::sessions_poke as poke;
@@ -60,7 +60,7 @@ pub fn poked(script: &mut Script) {
             sound_step(script, &mut module, 20);
         }
         last_number(script, &mut module);
-        let before = script.console.record.clone();
+        let before = script.bench.record.clone();
         let fields = script.rng.pick(&[1, 1, 1, 2, 3]);
         for _ in 0..fields {
             poke::field(script);
@@ -77,7 +77,7 @@ pub fn poked(script: &mut Script) {
 
 /// Now and then, in receiving: the packets that come at the last number.
 fn last_number(script: &mut Script, module: &mut Module) {
-    if script.console.record.phase == Phase::Receiving && script.rng.chance(150) {
+    if script.bench.record.phase == Phase::Receiving && script.rng.chance(150) {
         script.any_line(&["set next 65535", "set next 65534", "set next 65536"]);
         for _ in 0..3 {
             module.step(script);
@@ -126,7 +126,7 @@ pub fn rooms(script: &mut Script) {
             script.line(&format!("area {area}"));
         }
         let broken = script.rng.chance(250);
-        let next = script.console.record.next;
+        let next = script.bench.record.next;
         if broken {
             script.any_line(&["set next 65537", "set next 18446744073709551615"]);
         }

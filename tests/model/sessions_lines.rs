@@ -2,7 +2,8 @@
 //! ones, good ones spelled in every way, comments, empty lines, the longest lines, a
 //! last line without newline.
 
-use crate::console_line::{Bytes, Row, LONGEST_LINE, TABLE};
+use crate::console::commands::{Bytes, Command, TABLES};
+use crate::console::lines::MOST_LINE;
 use crate::rng::Rng;
 use crate::sessions::Script;
 use crate::stored::hex;
@@ -11,15 +12,16 @@ pub fn lines(script: &mut Script) {
     script.line("board 0 1 0A 010002 010000 0000000000000000");
     script.line("open 1 100");
     script.line("area 100");
+    let commands = commands();
     while script.goes_on() {
-        let row = &TABLE[script.rng.below(TABLE.len())];
+        let command = script.rng.pick(&commands);
         let line = match script.rng.below(100) {
             0..=3 => Vec::new(),
             4..=7 => b"# room 5".to_vec(),
-            8..=29 => no_command(&mut script.rng, row),
+            8..=29 => no_command(&mut script.rng, command),
             30..=34 => longest(&mut script.rng),
-            35..=64 => wrong_line(&mut script.rng, row),
-            _ => right_line(&mut script.rng, row),
+            35..=64 => wrong_line(&mut script.rng, command),
+            _ => right_line(&mut script.rng, command),
         };
         script.raw_line(&line);
     }
@@ -30,29 +32,36 @@ pub fn lines(script: &mut Script) {
     }
 }
 
+/// All commands in the page's order: the controller's and its fields, then the sender's.
+fn commands() -> Vec<&'static Command> {
+    let mut commands: Vec<&Command> = TABLES.into_iter().flatten().collect();
+    commands.sort_by_key(|command| command.name.starts_with("sender "));
+    commands
+}
+
 /// Any right line, spelled in any way.
-fn right_line(rng: &mut Rng, row: &Row) -> Vec<u8> {
-    let (numbers, count) = right_numbers(rng, row);
+fn right_line(rng: &mut Rng, command: &Command) -> Vec<u8> {
+    let (numbers, count) = right_numbers(rng, command);
     let bytes = rng.bytes(count);
     let bytes = spelled(rng, &bytes);
-    joined(rng, row.name, &numbers, &bytes)
+    joined(rng, command.name, &numbers, &bytes)
 }
 
 /// Numbers within the table's bounds, and how many bytes may follow them.
-fn right_numbers(rng: &mut Rng, row: &Row) -> (Vec<String>, usize) {
+fn right_numbers(rng: &mut Rng, command: &Command) -> (Vec<String>, usize) {
     let mut number = |most: u64| {
         let any = rng.next() % most.max(1);
         let value = rng.pick(&[any, 0, 1, most, any % 600]).min(most);
         let zeros = if rng.chance(800) { 0 } else { rng.below(21) };
         (value, format!("{value:0zeros$}"))
     };
-    let numbers: Vec<(u64, String)> = row.numbers.iter().map(|&most| number(most)).collect();
-    let count = match row.bytes {
-        Bytes::None => 0,
+    let numbers: Vec<(u64, String)> = command.most.iter().map(|&most| number(most)).collect();
+    let count = match command.bytes {
+        Bytes::Nothing => 0,
         Bytes::Any => rng.pick(&[0, 1, 9, 33, 60]),
         Bytes::Exactly(count) => count,
-        Bytes::Into(places) => {
-            let left = places - numbers[0].0 as usize;
+        Bytes::Within(size) => {
+            let left = size - numbers[0].0 as usize;
             let some = rng.pick(&[0, 1, 2, 40]);
             rng.pick(&[some, some, left]).min(left).min(600)
         }
@@ -62,9 +71,9 @@ fn right_numbers(rng: &mut Rng, row: &Row) -> (Vec<String>, usize) {
 
 /// A line that is wrong in its numbers, its bytes or behind them, perhaps in two
 /// places, for the order of the messages.
-fn wrong_line(rng: &mut Rng, row: &Row) -> Vec<u8> {
-    let (mut numbers, mut count) = right_numbers(rng, row);
-    for (place, &most) in row.numbers.iter().enumerate() {
+fn wrong_line(rng: &mut Rng, command: &Command) -> Vec<u8> {
+    let (mut numbers, mut count) = right_numbers(rng, command);
+    for (place, &most) in command.most.iter().enumerate() {
         if rng.chance(200) {
             numbers[place] = wrong_number(rng, most);
         }
@@ -73,10 +82,10 @@ fn wrong_line(rng: &mut Rng, row: &Row) -> Vec<u8> {
         numbers.truncate(rng.below(numbers.len() + 1));
     }
     if rng.chance(600) {
-        count = match row.bytes {
+        count = match command.bytes {
             Bytes::Exactly(count) => rng.pick(&[count - 1, count + 1, 0, 2 * count]),
-            Bytes::Into(_) => rng.pick(&[count + 1, 527, 601]),
-            Bytes::None | Bytes::Any => rng.pick(&[1, 2, count + 1]),
+            Bytes::Within(_) => rng.pick(&[count + 1, 527, 601]),
+            Bytes::Nothing | Bytes::Any => rng.pick(&[1, 2, count + 1]),
         };
     }
     let bytes = rng.bytes(count);
@@ -97,7 +106,7 @@ fn wrong_line(rng: &mut Rng, row: &Row) -> Vec<u8> {
         bytes.splice(0..0, wrong.iter().copied().filter(|_| rng.chance(500)));
         bytes.extend_from_slice(wrong);
     }
-    joined(rng, row.name, &numbers, &bytes)
+    joined(rng, command.name, &numbers, &bytes)
 }
 
 /// What is no number up to `most`.
@@ -116,8 +125,8 @@ fn wrong_number(rng: &mut Rng, most: u64) -> String {
 }
 
 /// What no name of the table stands at the front of.
-fn no_command(rng: &mut Rng, row: &Row) -> Vec<u8> {
-    let name = row.name;
+fn no_command(rng: &mut Rng, command: &Command) -> Vec<u8> {
+    let name = command.name;
     let line = match rng.below(14) {
         0 => format!(" {name} 0 0"),
         1 => format!("{name}x 0"),
@@ -148,7 +157,7 @@ fn longest(rng: &mut Rng) -> Vec<u8> {
         _ => (b"room ", b'0'),
     };
     let mut line = start.to_vec();
-    line.resize(rng.pick(&[LONGEST_LINE - 1, LONGEST_LINE, LONGEST_LINE, LONGEST_LINE + 1]), fill);
+    line.resize(rng.pick(&[MOST_LINE - 1, MOST_LINE, MOST_LINE, MOST_LINE + 1]), fill);
     line
 }
 

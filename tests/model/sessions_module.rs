@@ -1,9 +1,9 @@
 //! The module as random sessions play it: over several boards, with several images,
 //! mostly sound.
 
+use crate::console::record::{Board, Phase};
 use crate::crc::crc16;
 use crate::rng::Rng;
-use crate::session::{Board, Phase};
 use crate::sessions::Script;
 use crate::stored::hex;
 use crate::wire::{self, Image};
@@ -65,7 +65,7 @@ impl Module {
 
     /// What a sound module does next; while an end check runs, a portion call.
     pub fn step(&mut self, script: &mut Script) {
-        if script.console.record.checking {
+        if script.bench.record.check.running {
             return script.portion();
         }
         let frame = self.next_frame(script);
@@ -74,7 +74,7 @@ impl Module {
 
     /// The frame that a sound module sends next.
     pub fn next_frame(&mut self, script: &mut Script) -> Vec<u8> {
-        let record = script.console.record.clone();
+        let record = script.bench.record.clone();
         let channel = self.channel();
         if record.phase == Phase::Idle || record.channel != channel {
             if script.rng.chance(300) {
@@ -85,7 +85,9 @@ impl Module {
         match record.phase {
             Phase::Idle | Phase::Asked => wire::fb(channel, &self.announced()),
             Phase::Told => wire::fc(channel, record.stored as u32),
-            Phase::Receiving if record.stored < record.announced => self.next_packet(script),
+            Phase::Receiving if record.stored < record.identity.announced => {
+                self.next_packet(script)
+            }
             Phase::Receiving => wire::fe(channel),
             Phase::Done if script.rng.chance(300) => wire::fe(channel),
             Phase::Done => {
@@ -106,8 +108,8 @@ impl Module {
     }
 
     fn next_packet(&mut self, script: &mut Script) -> Vec<u8> {
-        let record = &script.console.record;
-        let left = record.announced.saturating_sub(record.stored) as usize;
+        let record = &script.bench.record;
+        let left = record.identity.announced.saturating_sub(record.stored) as usize;
         let full = (record.agreed as usize).clamp(1, 512).min(left.max(1));
         let (number, stored) = (record.next as u16, record.stored as usize);
         let n = if script.rng.chance(60) { script.rng.between(1, full) } else { full };
@@ -125,7 +127,7 @@ impl Module {
     /// A frame of right shape and listed channel that is wrong where the session is,
     /// or at least another one than the next.
     pub fn mistake(&mut self, script: &mut Script) -> Vec<u8> {
-        let record = script.console.record.clone();
+        let record = script.bench.record.clone();
         let stored = record.stored as u32;
         let rng = &mut script.rng;
         let other = rng.pick(&self.boards).channel;
@@ -159,7 +161,7 @@ impl Module {
     /// The next packet or the one sent last, with one or two things wrong: number, n,
     /// CRC-16, a byte, or more bytes than agreed or left.
     fn wrong_packet(&mut self, script: &mut Script, channel: u8) -> Vec<u8> {
-        let record = script.console.record.clone();
+        let record = script.bench.record.clone();
         let sent = self.sent.clone();
         self.next_packet(script);
         let rng = &mut script.rng;
@@ -180,7 +182,7 @@ impl Module {
                 3 if !bytes.is_empty() => bytes[0] ^= 1,
                 4 => bytes.truncate(rng.below(bytes.len() + 1)),
                 _ => {
-                    let left = record.announced.saturating_sub(record.stored);
+                    let left = record.identity.announced.saturating_sub(record.stored);
                     let edge = rng.pick(&[record.agreed, left]).min(511) as usize;
                     bytes.resize(edge + 1, 0);
                 }

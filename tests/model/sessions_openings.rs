@@ -1,23 +1,23 @@
 //! Random sessions over opening: lists that break each rule, counts and lengths at
 //! and around their edges, both wrong, rubbish in unused places.
 
+use crate::console::record::{Board, MOST_BOARDS};
 use crate::rng::Rng;
-use crate::session::{Board, MAX_BOARDS};
 use crate::sessions::Script;
 use crate::sessions_module::board_words;
 use crate::wire;
 
 /// Openings, each after a list or a change of it, and calls on what they give.
 pub fn openings(script: &mut Script) {
-    let mut list = [Board::default(); MAX_BOARDS];
-    let used = script.rng.between(1, MAX_BOARDS);
+    let mut list = [Board::default(); MOST_BOARDS];
+    let used = script.rng.between(1, MOST_BOARDS);
     for place in 0..used {
         list[place] = sound_board(&mut script.rng, place);
         put(script, place, &list[place]);
     }
     while script.goes_on() {
         if script.rng.chance(500) {
-            let place = script.rng.below(MAX_BOARDS);
+            let place = script.rng.below(MOST_BOARDS);
             let before = list[place];
             list[place] = any_board(&mut script.rng, &list);
             put(script, place, &list[place]);
@@ -55,7 +55,7 @@ fn open(script: &mut Script, used: usize) {
         }
         3 => {
             script.line(&format!("area {}", length.min(65_536)));
-            let first = script.console.list[0].channel;
+            let first = script.bench.list[0].channel;
             let channel = script.rng.pick(&[channel, first, first]);
             script.send(&wire::fa(channel, 64));
         }

@@ -1,8 +1,8 @@
 //! Replies to the sender in random sessions: those to its own request with any state,
 //! and those that do not fit.
 
+use crate::console::offer::Stage;
 use crate::crc::crc32;
-use crate::sender::Phase;
 use crate::sessions::Script;
 use crate::stored::hex;
 use crate::wire;
@@ -21,24 +21,24 @@ pub fn any_call(script: &mut Script) {
 /// The reply to the sender's own request, with any state, flag or offset, now and
 /// then on another channel.
 pub fn any_state(script: &mut Script) {
-    let sender = script.console.sender;
+    let sender = script.bench.sender.clone();
     let place = sender.place as u32;
     let told = told_front(script);
     let rng = &mut script.rng;
     let other = rng.chance(60);
-    let channel = if other { rng.byte() } else { sender.offer.channel };
+    let channel = if other { rng.byte() } else { sender.channel };
     let state = rng.below(6) as u8;
-    let (version, command, data) = match sender.phase {
-        Phase::Asking => (0x00, 0xFA, vec![channel, state % 3, 1, 0, 2, 2, rng.pick(&[0, 0, 1])]),
-        Phase::Telling if rng.chance(600) => (0x10, 0xFB, [&[channel, 0][..], &told].concat()),
-        Phase::Telling => (0x10, 0xFB, [&[channel, state][..], &told].concat()),
-        Phase::Placing => {
+    let (version, command, data) = match sender.stage {
+        Stage::Asking => (0x00, 0xFA, vec![channel, state % 3, 1, 0, 2, 2, rng.pick(&[0, 0, 1])]),
+        Stage::Telling if rng.chance(600) => (0x10, 0xFB, [&[channel, 0][..], &told].concat()),
+        Stage::Telling => (0x10, 0xFB, [&[channel, state][..], &told].concat()),
+        Stage::Placing => {
             let near = rng.pick(&[place.wrapping_add(1), place.wrapping_sub(1), place / 2]);
             let offset = rng.pick(&[place, 0, 0, near]);
             (0x00, 0xFC, [&[channel], &offset.to_be_bytes()[..]].concat())
         }
-        Phase::Sending => (0x00, 0xFD, vec![channel, state]),
-        Phase::Ending | Phase::Done | Phase::GivenUp => (0x00, 0xFE, vec![channel, state]),
+        Stage::Sending => (0x00, 0xFD, vec![channel, state]),
+        Stage::Ending | Stage::Done | Stage::GivenUp => (0x00, 0xFE, vec![channel, state]),
     };
     let bytes = wire::frame(version, command, &data);
     script.line(&format!("sender reply {}", hex(&bytes)));
@@ -47,11 +47,11 @@ pub fn any_state(script: &mut Script) {
 /// Stored, CRC-32 and MD5 field of an FB reply: a front of the image, the whole image,
 /// or more than there is, the CRC-32 that of the bytes there are or another one.
 fn told_front(script: &mut Script) -> Vec<u8> {
-    let length = script.console.image.length.min(3_000);
+    let length = script.bench.image.lent().len().min(3_000);
     let some = script.rng.below(length + 1);
     let stored = script.rng.pick(&[0, some, some, some, length, length + 1]);
     let there = script.rng.pick(&[stored, stored, stored.min(length), length]);
-    let crc = crc32(&script.console.image.bytes[..there]) ^ script.rng.pick(&[0, 0, 0, 1]);
+    let crc = crc32(&script.bench.image.bytes[..there]) ^ script.rng.pick(&[0, 0, 0, 1]);
     let field = script.rng.pick(&[0, 0, 0xA5]);
     [&(stored as u32).to_be_bytes()[..], &crc.to_be_bytes(), &[field; 16]].concat()
 }
@@ -59,18 +59,18 @@ fn told_front(script: &mut Script) -> Vec<u8> {
 /// A reply that does not fit, or fits by chance: any state or flag, a wrong field,
 /// bytes around it, none at all.
 pub fn wrong_reply(script: &mut Script) {
-    let sender = script.console.sender;
+    let sender = script.bench.sender.clone();
     let rng = &mut script.rng;
-    let channel = sender.offer.channel;
+    let channel = sender.channel;
     let state = rng.pick(&[0, 1, 2, 3, 4, 5, 255]);
     let place = sender.place as u32;
     let place = rng.pick(&[place, 0, place.wrapping_add(1), !0]);
-    let own = match sender.phase {
-        Phase::Asking => 0,
-        Phase::Telling => 1,
-        Phase::Placing => 2,
-        Phase::Sending => 3,
-        Phase::Ending | Phase::Done | Phase::GivenUp => 4,
+    let own = match sender.stage {
+        Stage::Asking => 0,
+        Stage::Telling => 1,
+        Stage::Placing => 2,
+        Stage::Sending => 3,
+        Stage::Ending | Stage::Done | Stage::GivenUp => 4,
     };
     let any = rng.below(5);
     let (version, command, mut data) = match rng.pick(&[own, own, any]) {

@@ -2,7 +2,7 @@
 //! to the controller, and the replies given back; losses, wrong replies, a changed
 //! image, stored bytes that are not the image's, and fields set.
 
-use crate::sender::Phase;
+use crate::console::offer::Stage;
 use crate::sessions::Script;
 use crate::sessions_module::Module;
 use crate::sessions_replies::{any_call, any_state, wrong_reply};
@@ -51,7 +51,7 @@ fn offer(script: &mut Script, module: &mut Module) {
 
 /// Opening at its edges.
 fn opening(script: &mut Script) {
-    let length = script.console.image.length;
+    let length = script.bench.image.lent().len();
     let lengths = [0, 1, 1_048_575, 1_048_576, 1_048_577, length];
     let other = script.rng.pick(&lengths);
     let size = script.rng.pick(&[0, 15, 16, 65_535]);
@@ -65,8 +65,8 @@ fn opening(script: &mut Script) {
 fn exchange(script: &mut Script, module: &mut Module) {
     let told = script.line("sender request");
     let Some(request) = bytes_of(&told, "frame=") else {
-        return match script.console.sender.phase {
-            Phase::Done | Phase::GivenUp if script.rng.chance(600) => offer(script, module),
+        return match script.bench.sender.stage {
+            Stage::Done | Stage::GivenUp if script.rng.chance(600) => offer(script, module),
             _ => end_or_repair(script),
         };
     };
@@ -81,7 +81,7 @@ fn exchange(script: &mut Script, module: &mut Module) {
 /// answer: the frame was refused, or the call was.
 fn answer(script: &mut Script, request: &[u8]) -> Option<Vec<u8>> {
     let mut told = script.line(&format!("feed {}", hex(request)));
-    while script.console.record.checking {
+    while script.bench.record.check.running {
         let most = script.rng.pick(&[300, 1_000, u64::MAX]);
         told = script.line(&format!("portion {most}"));
         if !told.contains(" portion 19 ") {
@@ -99,7 +99,7 @@ fn end_or_repair(script: &mut Script) {
         1 => wrong_reply(script),
         _ => {
             script.line("room 65536");
-            let length = script.console.sender.length.clamp(1, 3_000);
+            let length = script.bench.sender.length.clamp(1, 3_000);
             script.line(&format!("image {length}"));
         }
     }
@@ -117,7 +117,7 @@ fn lose(script: &mut Script) {
 
 /// The image in another length, a call, and as it was.
 fn other_length(script: &mut Script) {
-    let length = script.console.image.length;
+    let length = script.bench.image.lent().len();
     let other = script.rng.pick(&[length.saturating_sub(1), length + 1, 0]).min(1_048_577);
     script.line(&format!("image {other}"));
     if script.rng.chance(300) {
@@ -129,7 +129,7 @@ fn other_length(script: &mut Script) {
 
 /// A byte of the area's stored part, or of the image, becomes another one.
 fn change_bytes(script: &mut Script) {
-    let stored = script.console.record.stored.clamp(1, 600) as usize;
+    let stored = script.bench.record.stored.clamp(1, 600) as usize;
     let (at, byte) = (script.rng.below(stored), script.rng.byte());
     let memory = script.rng.pick(&["area", "area", "image"]);
     script.line(&format!("write {memory} {at} {byte:02X}"));

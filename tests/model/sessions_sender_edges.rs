@@ -1,9 +1,9 @@
 //! Random sessions with the sender's record set to values at and around every edge of
 //! its outcome 9 and of its other comparisons.
 
-use crate::console_sender::phase_name;
+use crate::console::offer::Sender;
+use crate::console::tell;
 use crate::rng::Rng;
-use crate::sender::Sender;
 use crate::sessions::Script;
 use crate::sessions_replies::any_call;
 use crate::stored::hex;
@@ -55,9 +55,9 @@ fn lawful_record(rng: &mut Rng, length: u64) -> Vec<String> {
 
 /// One or two fields of the sender's record set, a call, and mostly as they were.
 pub fn poked_call(script: &mut Script) {
-    let before = script.console.sender;
+    let before = script.bench.sender.clone();
     for _ in 0..script.rng.pick(&[1, 1, 2]) {
-        let sender = script.console.sender;
+        let sender = script.bench.sender.clone();
         let line = some_field(&mut script.rng, &sender);
         script.line(&line);
     }
@@ -69,7 +69,7 @@ pub fn poked_call(script: &mut Script) {
 
 /// A field at or around an edge of outcome 9 or of another comparison.
 fn some_field(rng: &mut Rng, sender: &Sender) -> String {
-    let packet = u64::from(sender.offer.size.clamp(1, 512));
+    let packet = u64::from(sender.size.clamp(1, 512));
     let fitting = sender.place / packet;
     let mut near = |values: &[u64]| {
         let value = rng.pick(values);
@@ -95,20 +95,20 @@ fn some_field(rng: &mut Rng, sender: &Sender) -> String {
 
 /// Sets every field of the sender's record back that is another than in this one.
 fn restore(script: &mut Script, to: &Sender) {
-    let now = script.console.sender;
+    let now = script.bench.sender.clone();
     let words = |sender: &Sender| {
         [
-            format!("channel {}", sender.offer.channel),
-            format!("pid {}", hex(&sender.offer.pid)),
-            format!("version {}", hex(&sender.offer.version)),
-            format!("md5 {}", hex(&sender.offer.md5)),
-            format!("size {}", sender.offer.size),
+            format!("channel {}", sender.channel),
+            format!("pid {}", hex(&sender.pid)),
+            format!("version {}", hex(&sender.version)),
+            format!("md5 {}", hex(&sender.md5)),
+            format!("size {}", sender.size),
             format!("length {}", sender.length),
-            format!("phase {}", phase_name(sender.phase)),
+            format!("phase {}", tell::stage(sender.stage)),
             format!("place {}", sender.place),
             format!("number {}", sender.number),
             format!("silences {}", sender.silences),
-            format!("legs {}", sender.new_legs),
+            format!("legs {}", sender.legs),
         ]
     };
     for (now, to) in words(&now).iter().zip(words(to)) {

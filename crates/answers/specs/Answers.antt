@@ -12,7 +12,7 @@ use Rattle.text.specs.Decimals.{decimal}
 use Rattle.text.specs.Hex.{hexByte}
 use Rattle.values.specs.Bytes.{bytesTexts}
 use Rattle.values.specs.Spans.{spanTexts}
-use Rattle.values.specs.Words.{verdictWord, decisionWord}
+use Rattle.values.specs.Words.{verdictWord, decisionTold}
 use Rattle.changes.specs.RecordChanges.{recordTexts}
 use Rattle.changes.specs.SenderChanges.{senderTexts}
 
@@ -55,20 +55,20 @@ portionedTexts p kept room =
     ++ roomTexts (ascii " reply=") (p .«reply_length») kept room
 
 -- "Nothing stands behind the last field but the newline."
-abbrev pub endTexts : List (List ℕ)
-endTexts = ascii "\n" ∷ []
+abbrev pub lineEnd : List (List ℕ)
+lineEnd = ascii "\n" ∷ []
 
 -- `OUTCOME frame=BYTES past=SPAN`
 abbrev pub framedTexts : ℕ → ℕ → List ℕ → List ℕ → List (List ℕ)
-framedTexts outcome n kept room = decimal outcome ∷ [] ++ roomTexts (ascii " frame=") n kept room ++ endTexts
+framedTexts outcome n kept room = decimal outcome ∷ [] ++ roomTexts (ascii " frame=") n kept room ++ lineEnd
 
 -- `OUTCOME decision=D`
 abbrev pub decidedTexts : Decided → List (List ℕ)
-decidedTexts d = decimal (d .outcome) ∷ ascii " decision=" ∷ decisionWord (d .decision) ∷ []
+decidedTexts d = decimal (d .outcome) ∷ ascii " decision=" ∷ decisionTold (d .decision) ∷ []
 
 -- `CHANGES`, the last field
 abbrev pub changedTexts : Record → Record → List (List ℕ)
-changedTexts before after = ascii " " ∷ [] ++ recordTexts before after ++ endTexts
+changedTexts before after = ascii " " ∷ [] ++ recordTexts before after ++ lineEnd
 
 abbrev pub senderChangedTexts : Sender → Sender → List (List ℕ)
-senderChangedTexts before after = ascii " " ∷ [] ++ senderTexts before after ++ endTexts
+senderChangedTexts before after = ascii " " ∷ [] ++ senderTexts before after ++ lineEnd

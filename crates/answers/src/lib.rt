@@ -20,7 +20,7 @@ use values::span::span;
 use values::word;
 ghost use Rattle.text.specs.Outputs.{TextsAdded};
 ghost use Rattle.answers.specs.Answers.{begunTexts, countTexts, readingTexts, roomTexts, calledTexts, portionedTexts, framedTexts};
-ghost use Rattle.answers.specs.Answers.{changedTexts, senderChangedTexts, decidedTexts, endTexts};
+ghost use Rattle.answers.specs.Answers.{changedTexts, senderChangedTexts, decidedTexts, lineEnd};
 
 // The line's number, and the name of the command with a space before it.
 pub fn begun(output: Output, number: u64, name: &[u8], out: &mut [u8; SIZE]) -> Output
@@ -147,7 +147,7 @@ pub fn sender_changed(output: Output, before: Sender, after: Sender, out: &mut [
 
 // The line's end.
 pub fn ended(output: Output, out: &mut [u8; SIZE]) -> Output
-    ensures { λ r. ⌜ TextsAdded output endTexts (now (out .entry)) r (now (out .exit)) ⌝ }
+    ensures { λ r. ⌜ TextsAdded output lineEnd (now (out .entry)) r (now (out .exit)) ⌝ }
 {
     output.text(b"\n", out)
 }

@@ -1,4 +1,5 @@
 -- The laws that belong to no one function, by subject.
 mod Lists
 pub mod Places
+pub mod ListRules
 pub mod Reports

@@ -10,15 +10,16 @@ use mathlib.Core.Bool.{true, false}
 use borrow.Author.Tests.{le-ltb}
 use lib.Dec.{ltb}
 use Rattle.fronts.specs.Frame.{encode, frameAt}
-use Rattle.frames.specs.Buffer.{writable, writtenSize, writtenRoom}
+use Rattle.frames.specs.Buffer.{wholeAt, writable, writtenSize, writtenRoom}
 use Rattle.sequences.specs.Padding.{padded, zeros}
 use Rattle.sequences.proofs.Padding.{padded-more}
 use Rattle.frames.proofs.Writes.{writable-fits}
-use Rattle.frames.proofs.RoundTrips.{size-written, room-written, frame-written}
+use Rattle.frames.proofs.RoundTrips.{size-written, room-written, whole-written, frame-written}
 use Rattle.boards.specs.declared.board.Board.{Board}
 use Rattle.sequences.specs.Places.{writtenAt}
 use Rattle.boards.specs.Boards.{maxBoards, pastBoard}
 use Rattle.boards.specs.Report.{boardBytes, boardsBytes, reportBytes, maxReport, reportFrame, reportSize, reportRoom}
+use Rattle.boards.specs.Report.{ReportsReadBack}
 
 boards-size : (bs : List Board) (n : ℕ) → length (boardsBytes bs n) ≡ 7 * n
 unfolding boardsBytes
@@ -91,5 +92,17 @@ module _ (bs : List Board) (n : ℕ) (room : List ℕ) (few : n ≤ maxBoards) w
         room-listed ∙ room-written (reportFrame bs n) room report-writable ∙ ap (λ (k : ℕ). encode (reportFrame bs n) ++ drop k room) size
 
     -- it reads back as a whole frame
-    pub report-reads-back : frameAt (reportRoom bs n room) ≡ reportFrame bs n
+    report-whole : wholeAt (reportRoom bs n room) ≡ true
+    report-whole = ap wholeAt room-listed ∙ whole-written (reportFrame bs n) room report-writable
+
+    report-reads-back : frameAt (reportRoom bs n room) ≡ reportFrame bs n
     report-reads-back = ap frameAt room-listed ∙ frame-written (reportFrame bs n) room report-writable
+
+pub reports-read-back : ReportsReadBack
+reports-read-back bs n room few wide =
+    record {
+      size = report-size bs n room few wide;
+      front = report-room bs n room few wide;
+      whole = report-whole bs n room few wide;
+      reads-back = report-reads-back bs n room few wide;
+    }

@@ -22,7 +22,7 @@ pub const REPORT_OVERHEAD: usize = OVERHEAD + 1;
 const MAX_REPORT: usize = 1 + BOARD_SIZE * list::MAX_BOARDS;
 
 // Writes the report of the first `count` boards to the front of room and gives its size; 0, and nothing written, where the room is too
-// short for it or there are more than ten.
+// short for it or there are more than ten. It is no call on a record and gives no outcome: a record is judged by who has one.
 pub fn write(boards: [Board; list::MAX_BOARDS], count: usize, room: &mut [u8]) -> usize
     ensures { λ r. ⌜ ReportWritten boards count (now (room .entry)) r (now (room .exit)) ⌝ }
 {

@@ -1,9 +1,10 @@
 -- A turn of the replay program. Which bytes a read puts into the input buffer no definition can say. Document 02, K5: "finish each before
 -- the next feeding or quiet call ..; the replay program does likewise, with FE's reply on FE's line". Assumes nothing.
 use mathlib.Core.Path.{_≡_}
+use mathlib.Core.Logic.{_⊎_}
 use mathlib.Core.Bool.{Bool, true, false, not, _||_, _&&_}
 use mathlib.Core.List.{List}
-use Prim.Native.Nat.{ℕ, _≤_, _<_, min}
+use Prim.Native.Nat.{ℕ, _+_, _≤_, _<_, min}
 use lib.ListN.{length}
 use lib.Seq.{slice}
 use Rattle.controller.specs.declared.call.Called.{Called}
@@ -57,19 +58,20 @@ Quieted run buffer area r after area′ =
 abbrev pub feedTurn : Run → List ℕ → List ℕ → CallLeaves
 feedTurn run input area = fedCall (slice (run .unfed .at) (run .unfed .end) input) (run .record) freshRoom area
 
--- the lines were written and the input buffer was read anew, and else nothing changed
-pub record ReadsOn (run : Run) (input : List ℕ) (r : Run) : Type 0 where
+-- no line waits any more, and the input buffer was read anew; or the lines could not be written, and it was not
+pub record ReadsOn (run : Run) (input : List ℕ) (r : Run) (input′ : List ℕ) : Type 0 where
   pub keeps : r .record ≡ run .record
   pub writes : AllWritten (run .account) (r .account)
   pub starts : r .unfed .at ≡ 0
   pub within : r .unfed .end ≤ length input
   pub goes-on : r .account .lines .failed ≡ false → AfterRead (r .unfed .end) (r .stage)
+  pub stops : r .account .lines .failed ≡ true → (r .stage ≡ Feeding) × ((r .unfed .end ≡ 0) × (input′ ≡ input))
 
 -- what is left in the input buffer is fed, and stays there; where nothing is, the input is read: what the buffer then holds is the read's
 pub record FeedsOrReads (run : Run) (input buffer area : List ℕ) (r : Run) (input′ after area′ : List ℕ) : Type 0 where
   pub feeds : run .unfed .at < min (run .unfed .end) (length input)
       → Passes run (feedTurn run input area) buffer Feeding r after area′ × (input′ ≡ input)
-  pub reads : min (run .unfed .end) (length input) ≤ run .unfed .at → ReadsOn run input r × ((after ≡ buffer) × (area′ ≡ area))
+  pub reads : min (run .unfed .end) (length input) ≤ run .unfed .at → ReadsOn run input r input′ × ((after ≡ buffer) × (area′ ≡ area))
 
 -- a portion of the end check
 abbrev pub portionTurn : Run → List ℕ → PortionLeaves
@@ -93,3 +95,33 @@ Turned false Feeding run input buffer area r input′ after area′ = FeedsOrRea
 Turned false Quiet run input buffer area r input′ after area′ = Quieted run buffer area r after area′ × (input′ ≡ input)
 Turned false Ended run input buffer area r input′ after area′ = (r ≡ run) × ((after ≡ buffer) × ((area′ ≡ area) × (input′ ≡ input)))
 Turned false ReadFailed run input buffer area r input′ after area′ = (r ≡ run) × ((after ≡ buffer) × ((area′ ≡ area) × (input′ ≡ input)))
+
+-- ---- all turns
+
+abbrev pub mostTurns : ℕ
+mostTurns = 18446744073709551615
+
+-- where a run stands, and what is lent to it
+pub record Standing : Type 0 where
+  pub run : Run
+  pub input : List ℕ
+  pub output : List ℕ
+  pub area : List ℕ
+
+-- a turn of a run that is not over
+abbrev pub ReplayTurn : Standing → Standing → Type 0
+ReplayTurn s t =
+    (runOver (s .run) ≡ false)
+    × Turned (isChecking (s .run .record)) (s .run .stage) (s .run) (s .input) (s .output) (s .area) (t .run) (t .input) (t .output)
+    (t .area)
+
+-- n turns
+pub data ReplayTurns (s : Standing) : ℕ → Standing → Type 0 where
+  first : ReplayTurns s 0 s
+  then : {n : ℕ} {t u : Standing} → ReplayTurns s n t → ReplayTurn t u → ReplayTurns s (n + 1) u
+
+-- the run was brought to its end; or as many turns were made as a number of 64 bits can count, which none comes to
+pub record Replayed (s t : Standing) : Type 0 where
+  pub turns : ℕ
+  pub made : ReplayTurns s turns t
+  pub over : (runOver (t .run) ≡ true) ⊎ (turns ≡ mostTurns)

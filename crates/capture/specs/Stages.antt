@@ -1,8 +1,9 @@
 -- Where a replay stands: it feeds what it reads, and "tells quiet at its end", that of the capture. Assumes nothing.
 use mathlib.Core.Path.{_≡_}
+use mathlib.Core.Logic.{_⊎_}
 use mathlib.Core.Bool.{Bool, true, false, cond}
 use Prim.Native.Nat.{ℕ, _<_}
-use lib.Dec.{eqb}
+use lib.Dec.{ltb, eqb}
 use Rattle.controller.specs.declared.record.Record.{Record}
 use Rattle.capture.specs.declared.stage.Stage.{Stage}
 use Rattle.capture.specs.declared.stage.Stage.the-variants.{Feeding, Quiet, Ended, ReadFailed}
@@ -20,15 +21,14 @@ readFailed Quiet = false
 readFailed Ended = false
 readFailed ReadFailed = true
 
--- after a read: it failed, it gave nothing and the input is at its end, or its bytes are to be fed
+-- after a read: its bytes are to be fed; where there are none, it failed or the input is at its end
 abbrev pub stageRead : Bool → ℕ → Stage
-stageRead is-failed end = cond is-failed ReadFailed (cond (eqb end 0) Quiet Feeding)
+stageRead is-failed end = cond (ltb 0 end) Feeding (cond is-failed ReadFailed Quiet)
 
--- the same, whether or not it failed: quiet comes at the end of the input only
+-- the same, whether or not it failed
 pub record AfterRead (end : ℕ) (stage : Stage) : Type 0 where
-  pub quiet : stage ≡ Quiet → end ≡ 0
-  pub feeding : stage ≡ Feeding → 0 < end
-  pub not-ended : stage ≡ Ended → ⊥
+  pub some : 0 < end → stage ≡ Feeding
+  pub none : end ≡ 0 → (stage ≡ Quiet) ⊎ (stage ≡ ReadFailed)
 
 -- quiet is told again until nothing is held
 abbrev pub stageQuiet : Record → Stage

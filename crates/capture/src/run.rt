@@ -108,7 +108,7 @@ impl Run {
 
     // The lines go out first: a read may wait long, and who reads them should not wait with it.
     fn read(self, input: &mut [u8; INPUT], output: &[u8; SIZE]) -> Run
-        ensures { λ r. ⌜ ReadsOn self (now (input .entry)) r ⌝ }
+        ensures { λ r. ⌜ ReadsOn self (now (input .entry)) r (now (input .exit)) ⌝ }
     {
         let record = self.record;
         let account = self.account.flush(output);

@@ -11,18 +11,18 @@ pub enum Stage {
     ReadFailed,
 }
 
-// After a read that put `end` bytes into the input buffer.
+// After a read that put `end` bytes into the input buffer: those are fed. Where there are none, it failed or the input is at its end.
 pub(crate) fn after_read(is_failed: bool, end: usize) -> Stage
     ensures { λ r. ⌜ r ≡ stageRead «is_failed» end ⌝ }
     ensures { λ r. ⌜ AfterRead end r ⌝ }
 {
+    if 0 < end {
+        return Stage::Feeding;
+    }
     if is_failed {
         return Stage::ReadFailed;
     }
-    if end == 0 {
-        return Stage::Quiet;
-    }
-    Stage::Feeding
+    Stage::Quiet
 }
 
 // After quiet was told.

@@ -32,7 +32,7 @@ abbrev pub told : List (List ℕ) → Carried → Carried
 told texts x = record { link = x .link; script = x .script; memory = x .memory; texts = texts ++ x .texts }
 
 module _ (l : Link) (s : Script) (memory : List ℕ) (f : Frame) where
-  -- "p: one copy goes under way"; "A copy for which all 64 places are taken is lost."
+  -- p: "one copy goes under way"; "A copy for which all 64 places are taken is lost."
   unfoldable pub passing : Carried
   passing =
       record {
@@ -42,11 +42,11 @@ module _ (l : Link) (s : Script) (memory : List ℕ) (f : Frame) where
         texts = cond (ltb (l .count) places) [] (goneTexts f lost);
       }
 
-  -- "l: it is lost"
+  -- l: "it is lost"
   abbrev pub losing : Carried
   losing = record { link = l; script = s; memory = memory; texts = goneTexts f lost }
 
--- "r: two copies go under way, one behind the other"
+-- r: "two copies go under way, one behind the other"
 abbrev pub repeating : Link → Script → List ℕ → Frame → Carried
 repeating l s memory f =
     let one = passing l s memory f in

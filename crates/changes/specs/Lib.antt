@@ -2,3 +2,4 @@
 pub mod BoardLists
 pub mod RecordChanges
 pub mod SenderChanges
+pub mod Examples

@@ -66,6 +66,6 @@ unfinished = 19
 abbrev pub wrongImage : ℕ
 wrongImage = 20
 
--- likewise: "not exactly one whole frame; or phase done or given up; or a field that 01 never gives there"
+-- likewise: "not exactly one whole frame; or phase done or given up; or a field that document 01 never gives there"
 abbrev pub wrongReply : ℕ
 wrongReply = 21

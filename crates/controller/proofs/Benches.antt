@@ -1,10 +1,11 @@
 -- The bench table holds, by computation from the definitions of a call. Assumes nothing.
-use mathlib.Core.Path.{_≡_, refl}
-use mathlib.Core.List.{map}
+use mathlib.Core.Path.{_≡_, refl, sym, ap, _∙_}
+use mathlib.Core.List.{List, [], _∷_, _++_, map}
+use Prim.Native.Nat.{ℕ}
+use native.Mathlib.Omega.{arith}
 use Rattle.crc.specs.Crc.{bit, bits, byteStep, update, finish, checksum, crc16-modbus, crc32}
-use Rattle.fronts.specs.Frame.{unsummed, encode, frameAt}
+use Rattle.fronts.specs.Frame.{Frame, unsummed, encode, frameAt}
 use Rattle.fronts.specs.Fronts.{frontOf}
-use Rattle.sequences.specs.Padding.{zeros}
 use Rattle.frames.specs.Finished.{finished}
 use Rattle.frames.specs.Buffer.{writable, writtenSize, writtenRoom}
 use Rattle.frames.specs.LiveReading.{withFrame, looking, feedingCall, fed}
@@ -33,13 +34,39 @@ use Rattle.controller.specs.Records.{unlawfulRecord, openedRecord}
 use Rattle.controller.specs.Calls.{refusalOf, finishedCall, calledBy}
 use Rattle.controller.specs.Portions.{portionCall}
 use Rattle.controller.specs.OutwardReport.{reportRefusal, reported, roomReported}
-use Rattle.controller.specs.Bench.{got, benchTable, areaSize}
+use Rattle.controller.specs.Bench.{got, emptyArea, benchTable, p1, stray10, stray11, endRequest, BenchHolds}
+use Rattle.frames.specs.Reading.{Reading, readingFrom, reading}
+use Rattle.frames.specs.Series.{Series, none, stray, frame}
+use Rattle.frames.proofs.Readings.{series-read}
 
-pub bench : map (got (zeros areaSize)) benchTable ≡ map (λ r. r .wanted) benchTable
-unfolding bit bits byteStep update finish checksum crc16-modbus crc32 unsummed encode frameAt frontOf finished writable writtenSize
-    writtenRoom withFrame looking feedingCall fed find commandTable rowAt placeInTable headerOf requestFA requestFB requestFC requestFD
-    packetOf replyFA replyFB replyFC replyState replyFrame hasReply replySize replyRoom same newer sameIdentity answerFA stateFB afterFB
-    grantFB answerFB answerFC isLast storing repeats stateFD takes writtenAt effectFD answerFE endedFE portionOf checkStep placeOf
+bench-rows : map (got emptyArea) benchTable ≡ map (λ r. r .wanted) benchTable
+unfolding bit bits byteStep update finish checksum crc16-modbus crc32 unsummed encode frameAt frontOf readingFrom reading finished writable
+    writtenSize writtenRoom withFrame looking feedingCall fed find commandTable rowAt placeInTable headerOf requestFA requestFB requestFC
+    requestFD packetOf replyFA replyFB replyFC replyState replyFrame hasReply replySize replyRoom same newer sameIdentity answerFA stateFB
+    afterFB grantFB answerFB answerFC isLast storing repeats stateFD takes writtenAt effectFD answerFE endedFE portionOf checkStep placeOf
     badList listOf freshSession opened unlawful effectOf routed judged reaction checked boardsBytes reportBytes reportFrame reportSize
     reportRoom unlawfulRecord openedRecord refusalOf finishedCall calledBy portionCall reportRefusal reported roomReported
-bench = refl
+bench-rows = refl
+
+p10-series : Series (stray10 ++ p1) (endRequest ∷ []) 6
+unfolding frameAt frontOf unsummed encode
+p10-series = stray refl (stray refl (stray refl (stray refl (stray refl (stray refl (frame {f = endRequest} (omega arith) none))))))
+
+first-command : List Frame → ℕ
+first-command [] = 0
+first-command (f ∷ fs) = f .command
+
+p11-command : first-command (reading (stray11 ++ p1) .frames) ≡ 0x56
+unfolding frameAt frontOf readingFrom reading first-command
+p11-command = refl
+
+pub bench : BenchHolds
+unfolding first-command
+bench =
+    record {
+      rows = bench-rows;
+      p10-series = p10-series;
+      p11-no-series = λ n s.
+          let e = ap (λ (r : Reading). first-command (r .frames)) (sym (series-read s)) ∙ p11-command in
+          omega arith;
+    }

@@ -213,7 +213,7 @@ module _ (call : Call) (untaken : List ℕ) (r : Record) (channel : ℕ) (room a
 
     one-go : inOneGo s (f .frame) area ≡ stepped (x .called .next .session) (dueOf (x .called .next .session) area)
     one-go =
-        started-due s (f .frame) area (sym runs-is ∙ runs) started
+        started-due s (f .frame) area lawful size (sym runs-is ∙ runs) started
         ∙ ap (λ (u : Session). stepped u (dueOf u area)) (sym (ap (λ (y : CallLeaves). y .called .next .session) call-is))
 
     module _ (cs : List Later) where

@@ -23,12 +23,12 @@ use Rattle.controller.specs.Calls.{minRoom}
 use Rattle.controller.specs.declared.record.Record.{Record}
 use Rattle.controller.specs.Portions.{PortionLeaves, checkedPortion, CallKind, lineCall, portion}
 use Rattle.controller.specs.Demand3.{State, own, Listed, Place, checking, isAccepted, afterPortion, next, Allowed, RunStart}
-use Rattle.controller.specs.Demand3.{start, Ending, Demand3}
+use Rattle.controller.specs.Demand3.{start, run, AllAllowed, Ending, Demand3}
 use Rattle.controller.proofs.Refusals.{record-accepted, accepts}
 use Rattle.controller.proofs.Steps.{stateOf, heldOf, givenState, landed, onOwn, next-landed}
 use Rattle.controller.proofs.Settling.{ended-still}
 use Rattle.controller.proofs.Keeping.{Keeps, portion-accepted, next-keeps}
-use Rattle.controller.proofs.StrayBytes.{startState, start-keeps, strays-cost-nothing, other-strays}
+use Rattle.controller.proofs.StrayBytes.{startState, start-keeps, run-keeps, strays-cost-nothing, other-strays}
 
 -- a room that is wide enough
 abbrev room : List ℕ
@@ -170,10 +170,19 @@ module _ (s₀ : State) (fs : List Frame) (n : ℕ) where
           let g = quiet-out (suc (length (heldOf (next m p)))) (next m p) (next-keeps s₀ fs n m p i ok) none y (omega arith) in
           record { calls = m ∷ g .calls; rules = (ok, g .rules); ended = g .ended }
 
-pub ending-exists : (r : Record) (area : List ℕ) → RunStart r area → (b : List ℕ) → Bytes b → Ending (start r area b)
-ending-exists r area o b q =
-    feed-out (startState r area) (reading b .frames) (reading b .dropped) (suc (length (heldOf (start r area b)) + length b))
-    (start r area b) (start-keeps r area b o q) (o .no-check) (omega arith)
+-- from every place that a run comes to
+ending-from : (s₀ : State) (fs : List Frame) (n : ℕ) (p : Place) → Keeps s₀ fs n p → Ending p
+ending-from s₀ fs n p k =
+    rest-then s₀ fs n p k
+    (λ q iq still _ _ _. feed-out s₀ fs n (suc (length (heldOf q) + length (q .untaken))) q iq still (omega arith))
+
+pub ending-exists : (r : Record) (area : List ℕ) → RunStart r area → (b : List ℕ) → Bytes b → (cs : List Listed)
+    → AllAllowed cs (start r area b) → Ending (run cs (start r area b))
+ending-exists r area o b q cs f =
+    let s₀ = startState r area in
+    let fs = reading b .frames in
+    let n = reading b .dropped in
+    ending-from s₀ fs n (run cs (start r area b)) (run-keeps s₀ fs n cs (start r area b) (start-keeps r area b o q) f)
 
 pub demand-3 : Demand3
 demand-3 = record { strays-cost-nothing = strays-cost-nothing; other-strays = other-strays; ends = ending-exists }

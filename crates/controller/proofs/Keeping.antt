@@ -9,7 +9,7 @@ use borrow.Author.Tests.{eqb-true, eq-eqb}
 use lib.Dec.{eqb}
 use lib.ListN.{length, drop, length-take}
 use lib.Seq.{drop-nil}
-use Rattle.fronts.specs.Frame.{maxFrame, Frame, FrameBytes, encode}
+use Rattle.fronts.specs.Frame.{maxFrame, Frame, encode}
 use Rattle.sequences.specs.Padding.{padded}
 use Rattle.frames.specs.Finished.{finished}
 use Rattle.frames.specs.LiveReading.{CallResult, Call, feeding, quiet, called, due}
@@ -37,17 +37,12 @@ use Rattle.controller.specs.Demand3.{State, stepTo, replyTo, Lent, own, 
 use Rattle.controller.specs.Demand3.{isQuiet, afterPortion, next, Allowed}
 use Rattle.controller.proofs.Refusals.{accepted-of}
 use Rattle.controller.proofs.Steps.{stateOf, heldOf, givenState, givenReply, landed, onOwn, next-refused, next-landed}
-use Rattle.controller.proofs.Settling.{settledState, dueReply, verdict-reply, ended-still, landed-settled, landed-reply}
+use Rattle.controller.proofs.Settling.{settledState, dueReply, Good, verdict-reply, ended-still, landed-settled, landed-reply}
 
--- lawful, and the area of the opened length
-pub record Good (s : State) : Type 0 where
-  pub lawful : unlawful (s .session) ≡ false
-  pub size : length (s .area) ≡ s .session .opened
-
-given-good : (s : State) (f : Frame) → FrameBytes f → Good s → Good (givenState s f)
-given-good s f b g =
+pub given-good : (s : State) (f : Frame) → Good s → Good (givenState s f)
+given-good s f g =
     let k = answer-keeps (s .session) (finished f) (s .area) (g .lawful) in
-    record { lawful = k .accepted; size = area-size (s .session) (finished f) (s .area) ∙ g .size ∙ sym (k .same-area) }
+    record { lawful = k .lawful; size = area-size (s .session) (finished f) (s .area) ∙ g .size ∙ sym (k .same-opened) }
 
 -- ---- a portion call
 
@@ -93,7 +88,7 @@ unmoved p =
 -- ---- what a running check is to the state
 
 module _ (s : State) where
-  running-settled : s .session .transfer .check .running ≡ true
+  pub running-settled : s .session .transfer .check .running ≡ true
       → settledState s ≡ record { session = withTransfer (s .session) (dueOf (s .session) (s .area) .transfer); area = s .area }
   running-settled e =
       ap (λ (x : Bool). cond x (record { session = withTransfer (s .session) (dueOf (s .session) (s .area) .transfer); area = s .area })
@@ -133,25 +128,25 @@ module _ (s₀ : State) (fs : List Frame) (n : ℕ) where
 
   -- ---- a call that reads
 
-  landed-keeps : (c : CallResult) (quieted : Bool) (p : Place) → Keeps p → checking p ≡ false → FrameBytes (c .frame)
+  landed-keeps : (c : CallResult) (quieted : Bool) (p : Place) → Keeps p → checking p ≡ false
       → length (c .held) ≤ maxFrame
       → Left (p .replies ++ repliesOf stepTo replyTo c (stateOf p)) (p .dropped + c .dropped) (stateAfter stepTo replyTo c (stateOf p))
       (c .held) (drop (c .taken) (p .untaken))
       → (quieted ≡ true → drop (c .taken) (p .untaken) ≡ []) → Keeps (landed c quieted p)
-  landed-keeps c quieted p k still b small m q =
+  landed-keeps c quieted p k still small m q =
       let e = held-again (c .held) in
       let given = repliesOf givenState givenReply c (stateOf p) in
       let more = dueReply (stateOf (landed c quieted p)) in
       record {
-        good = of-both Good (c .found) (givenState (stateOf p) (c .frame)) (stateOf p) (given-good (stateOf p) (c .frame) b (k .good))
+        good = of-both Good (c .found) (givenState (stateOf p) (c .frame)) (stateOf p) (given-good (stateOf p) (c .frame) (k .good))
             (k .good);
         count = small;
         remains =
             subst (λ (x : List ℕ). Left ((p .replies ++ given) ++ more) (p .dropped + c .dropped)
             (settledState (stateOf (landed c quieted p))) x (drop (c .taken) (p .untaken))) (sym e)
-            (remains-as (ap (λ (x : List (List ℕ)). p .replies ++ x) (sym (landed-reply c quieted p still))
+            (remains-as (ap (λ (x : List (List ℕ)). p .replies ++ x) (sym (landed-reply c quieted p (k .good) still))
             ∙ sym (append-assoc (p .replies) given more))
-            (sym (landed-settled c quieted p still)) m);
+            (sym (landed-settled c quieted p (k .good) still)) m);
         after-quiet = λ t. (q t, ap (padded maxFrame) (sym e));
       }
 
@@ -175,7 +170,6 @@ module _ (s₀ : State) (fs : List Frame) (n : ℕ) where
       let m = still-remains p i still in
       subst Keeps (sym (next-landed k room p e))
       (landed-keeps c (p .quieted || (isQuiet k && isAccepted (onOwn k room) p)) p i still
-      (keeps .frame (m .held) (m .coming))
       (keeps .small (omega (arith, length-take (p .at .reader .count) (p .at .reader .held), i .count)))
       (remains-called stepTo replyTo k h r u m)
       (none-left k (isAccepted (onOwn k room) p) p (c .taken) i u))

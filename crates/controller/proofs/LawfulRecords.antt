@@ -51,7 +51,7 @@ finished-keeps c rest r room area ok = go (x .found) refl
     go : (b : Bool) → x .found ≡ b → unlawfulRecord (finishedCall (handedBack x) (r .session) room area .called .next) ≡ false
     go true e =
         rw e (record-accepted _
-        (record { count = small; session = answer-keeps (r .session) (finished (x .frame)) area (lawful-record r ok .session) .accepted }))
+        (record { count = small; session = answer-keeps (r .session) (finished (x .frame)) area (lawful-record r ok .session) .lawful }))
     go false e = rw e (record-accepted _ (record { count = small; session = lawful-record r ok .session }))
 
 by-reading : (c : Call) (rest : List ℕ) (r : Record) (room area : List ℕ) → unlawfulRecord r ≡ false

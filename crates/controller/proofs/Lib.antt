@@ -10,6 +10,8 @@ pub mod LawfulRecords
 pub mod RunningChecks
 pub mod Courses
 pub mod EndRequestCall
+pub mod EndRequestLines
 pub mod StrayBytes
 pub mod Endings
+pub mod RunMeanings
 pub mod Benches

@@ -11,24 +11,15 @@ use Rattle.commands.specs.Outcomes.{accepted}
 use Rattle.boards.specs.Boards.{maxBoards}
 use Rattle.session.specs.Opening.{freshSession, opened}
 use Rattle.session.proofs.Openings.{open-usable, open-refused, none-unlawful}
-use Rattle.controller.specs.Records.{unlawfulRecord, holdingNothing, freshRecord, noRecord, openedRecord}
-use Rattle.controller.specs.Demand3.{RunStart}
+use Rattle.controller.specs.Records.{unlawfulRecord, holdingNothing, noRecord, openedRecord}
+use Rattle.controller.specs.Openings.{HandsBack, RecordOpens}
 use Rattle.controller.proofs.Refusals.{record-accepted}
 
-pub record Opens (bs : List Board) (n size : ℕ) : Type 0 where
-  -- "Opening that succeeds gives outcome 0 and the fresh record", from which a run can start on every area of that length
-  pub fresh : openedRecord bs n size .outcome ≡ accepted → openedRecord bs n size .next ≡ freshRecord bs n size
-  pub usable : openedRecord bs n size .outcome ≡ accepted → (area : List ℕ) → length area ≡ size
-      → RunStart (openedRecord bs n size .next) area
-  -- "no usable record": all zero
-  pub zero : (openedRecord bs n size .outcome ≡ accepted → ⊥) → openedRecord bs n size .next ≡ noRecord
-
--- "An unusable record is all zero and itself meets 9."
-pub none-refused : unlawfulRecord noRecord ≡ true
+none-refused : unlawfulRecord noRecord ≡ true
 unfolding unlawfulRecord
 none-refused = rw none-unlawful
 
-pub opens : (bs : List Board) (n size : ℕ) → length bs ≡ maxBoards → Opens bs n size
+pub opens : (bs : List Board) (n size : ℕ) → length bs ≡ maxBoards → HandsBack bs n size
 unfolding openedRecord freshSession
 opens bs n size ten =
     record {
@@ -36,10 +27,13 @@ opens bs n size ten =
       usable = λ z area e.
           let u = open-usable bs n size ten z in
           record {
-            lawful = record-accepted (holdingNothing (opened bs n size .session)) (record { count = omega arith; session = u .accepted });
+            lawful = record-accepted (holdingNothing (opened bs n size .session)) (record { count = omega arith; session = u .lawful });
             nothing-held = refl;
             size = e ∙ sym (ap (λ (s : Session). s .opened) (u .fresh));
             no-check = ap (λ (s : Session). s .transfer .check .running) (u .fresh);
           };
       zero = λ z. ap holdingNothing (open-refused bs n size z);
     }
+
+pub record-opens : RecordOpens
+record-opens = record { opens = opens; none-refused = none-refused }

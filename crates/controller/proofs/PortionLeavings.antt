@@ -1,7 +1,7 @@
 -- What each outcome of a portion call leaves. Assumes nothing.
 use mathlib.Core.Path.{_≡_, refl, sym, ap, _∙_, subst}
 use mathlib.Core.Bool.{Bool, true, false, cond}
-use mathlib.Core.Logic.{_↔_, _⊎_, ⊎-elim}
+use mathlib.Core.Logic.{_⊎_, ⊎-elim}
 use mathlib.Core.List.{List, [], _∷_, _++_}
 use Prim.Native.Nat.{ℕ, _+_, _≤_, _<_}
 use native.Mathlib.Omega.{arith}
@@ -22,14 +22,12 @@ use Rattle.session.specs.Checking.{checked}
 use Rattle.session.proofs.Lawfuls.{lawful as lawful-session}
 use Rattle.session.proofs.Checks.{is-portion, unended, finished-by}
 use Rattle.controller.specs.declared.record.Record.{Record}
-use Rattle.controller.specs.Records.{unlawfulRecord}
-use Rattle.controller.specs.Calls.{minRoom, refusalOf, replySizeOf}
+use Rattle.controller.specs.Calls.{refusalOf, replySizeOf}
 use Rattle.controller.specs.Portions.{refusedPortion, checkedPortion, portionCall}
-use Rattle.controller.specs.Leaving.{IsRefusal, IsPortionRefusal, Counted, PortionOutcomes, PortionLeaving}
-use Rattle.controller.proofs.Refusals.{lawful-record, Accepted, accepted-of, accepts, six-given, five-given}
+use Rattle.controller.specs.Leaving.{IsRefusal, IsPortionRefusal, Counted, PortionOutcomes, PortionLeaving, Refuses}
+use Rattle.controller.proofs.Refusals.{lawful-record, Accepted, accepted-of, accepts, refusal-is, code-refuses, none-refuses}
 use Rattle.controller.proofs.Settling.{verdict-answers, ended-reply, verdict-reply, verdict-room}
 use Rattle.controller.proofs.Keeping.{portion-refused, portion-accepted, no-check}
-use Rattle.controller.proofs.Leavings.{refusal-is, nine-given, nine-only}
 
 true-false : {A : Type 0} → true ≡ false → A
 true-false e = let z : _≡_ {A = ℕ} 0 1 = cc in absurd (omega arith)
@@ -54,9 +52,7 @@ module _ (most : ℕ) (r : Record) (room area : List ℕ) where
   refused-leaves e =
       let nonzero = eqb-false code 0 e in
       record {
-        nine = (λ z. nine-only r (length room) (length area) z, λ z. nine-given r (length room) (length area) z);
-        six = λ ok. six-given r (length room) (length area) ok;
-        five = λ ok size. five-given r (length room) (length area) ok size;
+        refuses = code-refuses r room area;
         eighteen = λ ok size wide. absurd
             (nonzero (accepts r (length room) (length area) (record { lawful = ok; size = size; wide = wide })));
         refused = λ _. refl;
@@ -73,22 +69,14 @@ module _ (most : ℕ) (r : Record) (room area : List ℕ) where
 
   -- not refused, by the session's part
   module _ (a : Accepted r (length room) (length area)) where
-    not-nine : (n : ℕ) → (n ≡ 9 → ⊥) → (n ≡ 9) ↔ (unlawfulRecord r ≡ true)
-    not-nine n h = (λ z. absurd (h z), λ z. true-false (sym z ∙ a .lawful))
-
-    not-six : (n : ℕ) → (n ≡ 6 → ⊥) → (n ≡ 6) ↔ (length area ≡ r .session .opened → ⊥)
-    not-six n h = (λ z. absurd (h z), λ z. absurd (z (a .size)))
-
-    not-five : (n : ℕ) → (n ≡ 5 → ⊥) → (n ≡ 5) ↔ (length room < minRoom)
-    not-five n h = (λ z. absurd (h z), λ z. absurd (omega (arith, a .wide, z)))
+    other : (n : ℕ) → (n ≡ 5 → ⊥) → (n ≡ 6 → ⊥) → (n ≡ 9 → ⊥) → Refuses r room area n
+    other n five six nine = none-refuses r room area n a (five, (six, nine))
 
     still-leaves : r .session .transfer .check .running ≡ false
         → PortionOutcomes most r room area (record { called = refusedPortion 18 r; room = room })
     still-leaves still =
         record {
-          nine = not-nine 18 (λ z. omega arith);
-          six = λ _. not-six 18 (λ z. omega arith);
-          five = λ _ _. not-five 18 (λ z. omega arith);
+          refuses = other 18 (λ z. omega arith) (λ z. omega arith) (λ z. omega arith);
           eighteen = λ _ _ _. (λ _. still, λ _. refl);
           refused = λ _. refl;
           unfinished = λ z. absurd (omega arith);
@@ -129,9 +117,7 @@ module _ (most : ℕ) (r : Record) (room area : List ℕ) where
         goes h =
             subst (PortionOutcomes most r room area) (sym (accepted-is e _ (unended s most area lawful (a .size) runs h .is)))
             (record {
-              nine = not-nine 19 (λ z. omega arith);
-              six = λ _. not-six 19 (λ z. omega arith);
-              five = λ _ _. not-five 19 (λ z. omega arith);
+              refuses = other 19 (λ z. omega arith) (λ z. omega arith) (λ z. omega arith);
               eighteen = λ _ _ _. (λ z. absurd (omega arith), λ z. true-false (sym runs ∙ z));
               refused = λ w. absurd (no-refusal 19 (λ z. omega arith) (λ z. omega arith) (λ z. omega arith) (λ z. omega arith) w);
               unfinished = λ _. (refl, (refl, refl));
@@ -149,9 +135,8 @@ module _ (most : ℕ) (r : Record) (room area : List ℕ) where
             let zero = verdict-answers (willSay (s .transfer) area) in
             subst (PortionOutcomes most r room area) (sym (accepted-is e _ (finished-by s most area lawful (a .size) runs h .is)))
             (record {
-              nine = not-nine _ (λ z. let y = sym zero ∙ z in omega arith);
-              six = λ _. not-six _ (λ z. let y = sym zero ∙ z in omega arith);
-              five = λ _ _. not-five _ (λ z. let y = sym zero ∙ z in omega arith);
+              refuses = other _ (λ z. let y = sym zero ∙ z in omega arith) (λ z. let y = sym zero ∙ z in omega arith)
+                  (λ z. let y = sym zero ∙ z in omega arith);
               eighteen = λ _ _ _. (λ z. absurd (let y = sym zero ∙ z in omega arith), λ z. true-false (sym runs ∙ z));
               refused = λ w. absurd
                   (no-refusal _ (λ z. let y = sym zero ∙ z in omega arith) (λ z. let y = sym zero ∙ z in omega arith)

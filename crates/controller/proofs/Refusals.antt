@@ -1,7 +1,7 @@
 -- A lawful record, and a call that is not refused. Assumes nothing.
-use mathlib.Core.Path.{_≡_, refl, ap₂}
+use mathlib.Core.Path.{_≡_, refl, sym, ap₂, _∙_}
 use mathlib.Core.Bool.{Bool, true, false, not, _||_}
-use mathlib.Core.Logic.{_↔_}
+use mathlib.Core.Logic.{_↔_, inl, inr}
 use Prim.Native.Nat.{ℕ, _<_, _≤_}
 use native.Mathlib.Omega.{arith}
 use borrow.Author.Tests.{ltb-true, ltb-false, le-ltb, eqb-true, eqb-false, eq-eqb, not-false}
@@ -12,6 +12,10 @@ use Rattle.session.specs.Lawful.{unlawful}
 use Rattle.controller.specs.declared.record.Record.{Record}
 use Rattle.controller.specs.Records.{unlawfulRecord}
 use Rattle.controller.specs.Calls.{minRoom, refusalOf}
+use mathlib.Core.List.{List}
+use lib.ListN.{length}
+use Rattle.session.proofs.Unanswered.{NoRefusal}
+use Rattle.controller.specs.Leaving.{IsRefusal, Refuses}
 
 pub record LawfulRecord (r : Record) : Type 0 where
   pub count : r .reader .count ≤ maxFrame
@@ -68,3 +72,48 @@ five-given r room area ok size = go (ltb room minRoom) refl
           λ z. absurd (omega arith),
           λ h. absurd (let n = ltb-false room minRoom ec in omega arith),
         )
+
+pub refusal-is : (r : Record) (room area : ℕ) → (refusalOf r room area ≡ 0 → ⊥) → IsRefusal (refusalOf r room area)
+unfolding refusalOf
+refusal-is r room area n = go (unlawfulRecord r) (not (eqb area (r .session .opened))) (ltb room minRoom) refl refl refl
+  where
+    go : (a b c : Bool) → unlawfulRecord r ≡ a → not (eqb area (r .session .opened)) ≡ b → ltb room minRoom ≡ c
+        → IsRefusal (refusalOf r room area)
+    go true b c ea eb ec = inr (inr (simp ea))
+    go false true c ea eb ec = inr (inl (simp (ea, eb)))
+    go false false true ea eb ec = inl (simp (ea, eb, ec))
+    go false false false ea eb ec = absurd (n (simp (ea, eb, ec)))
+
+pub nine-given : (r : Record) (room area : ℕ) → unlawfulRecord r ≡ true → refusalOf r room area ≡ 9
+unfolding refusalOf
+nine-given r room area e = rw e
+
+pub nine-only : (r : Record) (room area : ℕ) → refusalOf r room area ≡ 9 → unlawfulRecord r ≡ true
+unfolding refusalOf
+nine-only r room area e = go (unlawfulRecord r) (not (eqb area (r .session .opened))) (ltb room minRoom) refl refl refl
+  where
+    go : (a b c : Bool) → unlawfulRecord r ≡ a → not (eqb area (r .session .opened)) ≡ b → ltb room minRoom ≡ c → unlawfulRecord r ≡ true
+    go true b c ea eb ec = ea
+    go false true c ea eb ec = absurd (let z = simp (ea, eb) at e in omega arith)
+    go false false true ea eb ec = absurd (let z = simp (ea, eb, ec) at e in omega arith)
+    go false false false ea eb ec = absurd (let z = simp (ea, eb, ec) at e in omega arith)
+
+-- ---- 9, 6 and 5 as a call's outcome
+
+module _ (r : Record) (room area : List ℕ) where
+  pub code-refuses : Refuses r room area (refusalOf r (length room) (length area))
+  code-refuses =
+      record {
+        nine = (nine-only r (length room) (length area), nine-given r (length room) (length area));
+        six = six-given r (length room) (length area);
+        five = five-given r (length room) (length area);
+      }
+
+  -- of a call that is not refused, whose outcome is another
+  pub none-refuses : (n : ℕ) → Accepted r (length room) (length area) → NoRefusal n → Refuses r room area n
+  none-refuses n a other =
+      record {
+        nine = (λ z. absurd (other .1 .1 z), λ z. let w = sym z ∙ a .lawful in let y : _≡_ {A = ℕ} 0 1 = cc in absurd (omega arith));
+        six = λ _. (λ z. absurd (other .1 .0 z), λ z. absurd (z (a .size)));
+        five = λ _ _. (λ z. absurd (other .0 z), λ z. absurd (omega (arith, a .wide, z)));
+      }

@@ -18,13 +18,17 @@ use Rattle.ending.specs.FE.{endedFE}
 use Rattle.session.specs.declared.answer.Answer.{Answer}
 use Rattle.commands.specs.Outcomes.{accepted}
 use Rattle.session.specs.Checking.{outcomeOf}
-use Rattle.session.specs.OneGo.{inOneGo}
 use Rattle.session.specs.Transfers.{withTransfer}
 use Rattle.session.proofs.Checks.{started-by, dueOf, started-due}
 use Rattle.controller.specs.Calls.{minRoom, replySizeOf, replyRoomOf, replyIn}
 use Rattle.controller.specs.Leaving.{stateFrame, verdictState}
 use Rattle.controller.specs.Demand3.{State, answerTo, stepTo, replyTo, Place, checking}
 use Rattle.controller.proofs.Steps.{stateOf, given, givenState, givenReply, reply-in, landed}
+use Rattle.session.specs.Lawful.{unlawful}
+use Rattle.session.specs.Answering.{stepped}
+use Rattle.session.proofs.OneGoes.{as-judged, called-in-one-go}
+use Rattle.transfer.specs.Transfers.{Effect}
+use Rattle.ending.specs.Portions.{rightCrc}
 
 -- the state once what is due is done, and FE's reply
 abbrev pub settledState : State → State
@@ -78,16 +82,27 @@ verdict-room t right room wide =
     (replySizeOf b 0xFE (d .reply) room) room) (sym (ended-replies t right))
     (reply-room 0xFE (d .reply) room (reply-frames .fe-replied) wide)
 
+-- lawful, and the area of the opened length
+pub record Good (s : State) : Type 0 where
+  pub lawful : unlawful (s .session) ≡ false
+  pub size : length (s .area) ≡ s .session .opened
+
 -- a frame, while no check runs
-module _ (s : State) (f : Frame) (still : s .session .transfer .check .running ≡ false) where
+module _ (s : State) (f : Frame) (good : Good s) (still : s .session .transfer .check .running ≡ false) where
   abbrev starts : Bool
   starts = given s f .session .transfer .check .running
 
   one-go-same : starts ≡ false → answerTo s f ≡ given s f
-  unfolding inOneGo
-  one-go-same e = rw e
+  one-go-same e =
+      let a = given s f in
+      called-in-one-go (s .session) (finished f) (s .area) (good .lawful) (good .size)
+      ∙ ap (λ (b : Bool). cond b (stepped (a .session) (endedFE (a .session .transfer) (rightCrc (a .session .transfer) (s .area)))) a) e
 
-  settled-step : settledState (givenState s f) ≡ stepTo s f
+  -- the area that the frame leaves
+  area-same : givenState s f .area ≡ stepTo s f .area
+  area-same = ap (λ (x : Effect Answer). x .area) (as-judged (s .session) (finished f) (s .area) (good .lawful) (good .size))
+
+  pub settled-step : settledState (givenState s f) ≡ stepTo s f
   settled-step = go starts refl
     where
       go : (b : Bool) → starts ≡ b → settledState (givenState s f) ≡ stepTo s f
@@ -97,7 +112,7 @@ module _ (s : State) (f : Frame) (still : s .session .transfer .check .running �
             session = withTransfer (given s f .session) (dueOf (given s f .session) (givenState s f .area) .transfer);
             area = givenState s f .area;
           }) (givenState s f)) e
-          ∙ ap (λ (a : Answer). record { session = a .session; area = givenState s f .area }) (sym (one-go-same e))
+          ∙ ap₂ (λ (a : Answer) (m : List ℕ). record { session = a .session; area = m }) (sym (one-go-same e)) area-same
       go true e =
           let y = started-by (s .session) (finished f) (s .area) still e in
           ap (λ (x : Bool). cond x
@@ -109,8 +124,8 @@ module _ (s : State) (f : Frame) (still : s .session .transfer .check .running �
             session = withTransfer (given s f .session) (dueOf (given s f .session) m .transfer);
             area = givenState s f .area;
           }) (y .same-area)
-          ∙ ap (λ (a : Answer). record { session = a .session; area = givenState s f .area })
-          (sym (started-due (s .session) (finished f) (s .area) e y))
+          ∙ ap₂ (λ (a : Answer) (m : List ℕ). record { session = a .session; area = m })
+          (sym (started-due (s .session) (finished f) (s .area) (good .lawful) (good .size) e y)) area-same
 
   settled-reply : givenReply s f ++ dueReply (givenState s f) ≡ replyTo s f
   settled-reply = go starts refl
@@ -130,18 +145,18 @@ module _ (s : State) (f : Frame) (still : s .session .transfer .check .running �
           ∙ ap (λ (m : List ℕ). encode (replyFrame 0xFE (dueOf (given s f .session) m .reply)) ∷ []) (y .same-area)
           ∙ sym
           (ap (λ (a : Answer). cond (a .replies) (encode (replyFrame (f .command) (a .reply)) ∷ []) [])
-          (started-due (s .session) (finished f) (s .area) e y)
+          (started-due (s .session) (finished f) (s .area) (good .lawful) (good .size) e y)
           ∙ ap₂ (λ (b : Bool) (k : ℕ). cond b (encode (replyFrame k (d .reply)) ∷ []) [])
           (ended-replies (given s f .session .transfer) _) is-fe)
 
 -- a call that read c, while no check runs
-module _ (c : CallResult) (quieted : Bool) (p : Place) (still : checking p ≡ false) where
+module _ (c : CallResult) (quieted : Bool) (p : Place) (good : Good (stateOf p)) (still : checking p ≡ false) where
   pub landed-settled : settledState (stateOf (landed c quieted p)) ≡ stateAfter stepTo replyTo c (stateOf p)
   landed-settled = go (c .found) refl
     where
       go : (b : Bool) → c .found ≡ b → settledState (stateAfter givenState givenReply c (stateOf p)) ≡ stateAfter stepTo replyTo c
           (stateOf p)
-      go true e = rw e (settled-step (stateOf p) (c .frame) still)
+      go true e = rw e (settled-step (stateOf p) (c .frame) good still)
       go false e =
           rw e (ap (λ (x : Bool). cond x
           (record { session = withTransfer (p .at .session) (dueOf (p .at .session) (p .area) .transfer); area = p .area }) (stateOf p))
@@ -154,5 +169,5 @@ module _ (c : CallResult) (quieted : Bool) (p : Place) (still : checking p ≡ f
       go : (b : Bool) → c .found ≡ b
           → repliesOf givenState givenReply c (stateOf p) ++ dueReply
           (stateAfter givenState givenReply c (stateOf p)) ≡ repliesOf stepTo replyTo c (stateOf p)
-      go true e = rw e (settled-reply (stateOf p) (c .frame) still)
+      go true e = rw e (settled-reply (stateOf p) (c .frame) good still)
       go false e = rw e (ap (λ (x : Bool). cond x (encode (replyFrame 0xFE (dueOf (p .at .session) (p .area) .reply)) ∷ []) []) still)

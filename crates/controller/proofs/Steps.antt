@@ -11,7 +11,7 @@ use Rattle.frames.specs.declared.reader.Reader.{Reader}
 use Rattle.frames.specs.declared.reader.Fed.{Fed}
 use Rattle.fronts.specs.Frame.{Frame, encode}
 use Rattle.frames.specs.Finished.{finished}
-use Rattle.frames.specs.LiveReading.{CallResult, Call, called, fedBy, heldBytes, holding, handedBack}
+use Rattle.frames.specs.LiveReading.{CallResult, Call, feeding, quiet, called, fedBy, heldBytes, holding, handedBack}
 use Rattle.frames.proofs.FinishedFrames.{finished-command}
 use Rattle.frames.proofs.Calls.{call-accepted}
 use Rattle.frames.proofs.Remains.{stateAfter, repliesOf}
@@ -25,6 +25,7 @@ use Rattle.controller.specs.Calls.{minRoom, refusalOf, CallLeaves, refus
 use Rattle.controller.specs.Calls.{finishedCall, calledBy}
 use Rattle.controller.specs.Portions.{lineCall}
 use Rattle.controller.specs.Demand3.{State, Lent, own, other, Listed, Place, lent, isAccepted, isQuiet, after, next}
+use Rattle.controller.specs.Demand3.{leavesOf}
 use Rattle.controller.proofs.Refusals.{lawful-record, accepted-of}
 
 abbrev pub stateOf : Place → State
@@ -133,13 +134,19 @@ calling-accepted reads r room area e = rw e
 abbrev pub lending : Call → List ℕ → Lent → Listed
 lending k room lends = record { kind = lineCall k; room = room; lends = lends }
 
+-- the two kinds of it as one
+pub leaves-by : (k : Call) (c : Listed) (p : Place)
+    → leavesOf k c p ≡ calledBy (fedBy k (p .untaken)) (p .at) (c .room) (lent (c .lends) (p .area))
+leaves-by (feeding n) c p = refl
+leaves-by quiet c p = refl
+
 pub next-refused : (k : Call) (room : List ℕ) (lends : Lent) (p : Place) → isAccepted (lending k room lends) p ≡ false
     → next (lending k room lends) p ≡ p
 next-refused k room lends p e =
     let c = lending k room lends in
     let q = ap (λ (x : Bool). p .quieted || (isQuiet k && x)) e ∙ or-not (p .quieted) (isQuiet k) in
     ap (λ (x : CallLeaves). after x lends (p .quieted || (isQuiet k && isAccepted c p)) p)
-    (calling-refused (fedBy k (p .untaken)) (p .at) room (lent lends (p .area)) e)
+    (leaves-by k c p ∙ calling-refused (fedBy k (p .untaken)) (p .at) room (lent lends (p .area)) e)
     ∙ refused-place (refusalOf (p .at) (length room) (length (lent lends (p .area)))) room lends
     (p .quieted || (isQuiet k && isAccepted c p)) p q
 
@@ -153,7 +160,8 @@ pub next-landed : (k : Call) (room : List ℕ) (p : Place) → isAccepted (onOwn
 next-landed k room p e =
     let a = accepted-of (p .at) (length room) (length (p .area)) (eqb-true _ _ e) in
     let q = p .quieted || (isQuiet k && isAccepted (onOwn k room) p) in
-    ap (λ (x : CallLeaves). after x own q p) (calling-accepted (fedBy k (p .untaken)) (p .at) room (p .area) e)
+    ap (λ (x : CallLeaves). after x own q p)
+    (leaves-by k (onOwn k room) p ∙ calling-accepted (fedBy k (p .untaken)) (p .at) room (p .area) e)
     ∙ ap (λ (f : Fed). after (finishedCall f (p .at .session) room (p .area)) own q p)
     (call-accepted k (p .untaken) (p .at .reader) (lawful-record (p .at) (a .lawful) .count))
     ∙ finish-landed (called k (heldOf p) (p .untaken)) p room q (a .wide)

@@ -45,7 +45,7 @@ start-keeps r area b o q =
       after-quiet = λ t. let z : _≡_ {A = ℕ} 0 1 = cc in absurd (omega arith);
     }
 
-run-keeps : (s₀ : State) (fs : List Frame) (n : ℕ) (cs : List Listed) (p : Place) → Keeps s₀ fs n p → AllAllowed cs p
+pub run-keeps : (s₀ : State) (fs : List Frame) (n : ℕ) (cs : List Listed) (p : Place) → Keeps s₀ fs n p → AllAllowed cs p
     → Keeps s₀ fs n (run cs p)
 run-keeps s₀ fs n [] p k f = k
 run-keeps s₀ fs n (c ∷ cs) p k f = run-keeps s₀ fs n cs (next c p) (next-keeps s₀ fs n c p k (f .0)) (f .1)

@@ -1,20 +1,30 @@
 -- 01, "Frames from the bench", as one table: for each row the frames fed before, each of which must be answered, then what is done and
--- everything that is to be seen of it. The rows behind P8's go on to the end check and its portions (document 02, K5). Assumes nothing.
+-- everything that is to be seen of it. The rows behind P11's go on to the end check and its portions (document 02, K5). Assumes nothing.
+use mathlib.Core.Path.{_≡_}
 use mathlib.Core.Bool.{Bool, true, _&&_}
-use mathlib.Core.List.{List, [], _∷_, _++_}
+use mathlib.Core.List.{List, [], _∷_, _++_, map}
 use Prim.Native.Nat.{ℕ}
 use lib.Dec.{eqb}
-use lib.ListN.{take, replicate}
+use lib.ListN.{length, take, drop, replicate}
 use Rattle.sequences.specs.Padding.{zeros}
 use Rattle.boards.specs.declared.board.Board.{Board}
 use Rattle.image.specs.declared.check.Verdict.{Verdict}
 use Rattle.image.specs.declared.check.Verdict.the-variants.{Unfinished, Right}
 use Rattle.boards.specs.Boards.{noBoard}
 use Rattle.controller.specs.declared.record.Record.{Record}
-use Rattle.controller.specs.Records.{openedRecord}
-use Rattle.controller.specs.Calls.{minRoom, fedCall}
+use Rattle.controller.specs.Records.{holdingNothing, openedRecord}
+use Rattle.controller.specs.Calls.{fedCall}
 use Rattle.controller.specs.Portions.{portionCall}
 use Rattle.controller.specs.OutwardReport.{reported, roomReported}
+use Rattle.fronts.specs.Frame.{Frame}
+use Rattle.frames.specs.Reading.{Reading, reading}
+use Rattle.frames.specs.Series.{Series}
+use Rattle.image.specs.declared.check.Check.{Check}
+use Rattle.image.specs.Checks.{noCheck, startedCheck, readOn}
+use Rattle.transfer.specs.declared.identity.Identity.{Identity}
+use Rattle.transfer.specs.declared.phase.Phase.{Phase}
+use Rattle.transfer.specs.declared.phase.Phase.the-variants.{Asked, Receiving, Done}
+use Rattle.transfer.specs.Identities.{noIdentity}
 
 -- "Board: channel 10, soft 1.0.2, hard 1.0.0, PID all zero, permitted, area 65,536." The bench's programs may put it on another channel.
 abbrev pub board : ℕ → Board
@@ -35,8 +45,13 @@ pub data Action : Type 0 where
   checks : ℕ → Action
   reports : Action
 
--- all that is seen of it; `earlier` says that every frame fed before was answered
+-- the room that is lent: wider than is asked for, and not of zeros, so that what stays of it is seen
+abbrev pub lentRoom : List ℕ
+lentRoom = replicate 40 0xEE
+
+-- all that is seen of it, and all that it leaves
 pub record Seen : Type 0 where
+  -- every frame fed before was answered
   pub earlier : Bool
   pub outcome : ℕ
   pub reply : List ℕ
@@ -47,15 +62,22 @@ pub record Seen : Type 0 where
   -- bytes of the image that a portion read, and what it said
   pub count : ℕ
   pub verdict : Verdict
+  -- the bytes that were fed, read as a byte sequence
+  pub sequence : Reading
+  pub at : Record
+  pub room : List ℕ
+  pub area : List ℕ
 
 pub record Row : Type 0 where
+  -- the P numbers that it shows; none where it goes beyond 01
+  pub shows : List ℕ
   pub before : List (List ℕ)
   pub action : Action
   pub wanted : Seen
 
 abbrev pub seen : Bool → Action → Record → List ℕ → Seen
 seen earlier (feeds bytes) r area =
-    let x = fedCall bytes r (zeros minRoom) area in
+    let x = fedCall bytes r lentRoom area in
     record {
       earlier = earlier;
       outcome = x .called .outcome;
@@ -66,9 +88,13 @@ seen earlier (feeds bytes) r area =
       L = x .called .«data_length»;
       count = 0;
       verdict = Unfinished;
+      sequence = reading bytes;
+      at = x .called .next;
+      room = x .room;
+      area = x .area;
     }
 seen earlier (checks most) r area =
-    let x = portionCall most r (zeros minRoom) area in
+    let x = portionCall most r lentRoom area in
     record {
       earlier = earlier;
       outcome = x .called .outcome;
@@ -79,28 +105,38 @@ seen earlier (checks most) r area =
       L = 0;
       count = x .called .count;
       verdict = x .called .verdict;
+      sequence = reading [];
+      at = x .called .next;
+      room = x .room;
+      area = area;
     }
 seen earlier reports r area =
     record {
       earlier = earlier;
-      outcome = reported r (zeros minRoom) .outcome;
-      reply = take (reported r (zeros minRoom) .length) (roomReported r (zeros minRoom));
+      outcome = reported r lentRoom .outcome;
+      reply = take (reported r lentRoom .length) (roomReported r lentRoom);
       taken = 0;
       dropped = 0;
       command = 0;
       L = 0;
       count = 0;
       verdict = Unfinished;
+      sequence = reading [];
+      at = r;
+      room = roomReported r lentRoom;
+      area = area;
     }
 
 abbrev pub seenAfter : List (List ℕ) → Bool → Action → Record → List ℕ → Seen
 seenAfter [] earlier action r area = seen earlier action r area
 seenAfter (bytes ∷ more) earlier action r area =
-    let x = fedCall bytes r (zeros minRoom) area in
+    let x = fedCall bytes r lentRoom area in
     seenAfter more (earlier && eqb (x .called .outcome) 0) action (x .called .next) (x .area)
 
 abbrev pub got : List ℕ → Row → Seen
 got area benchRow = seenAfter (benchRow .before) true (benchRow .action) fresh area
+
+-- ---- the frames
 
 -- "P1 FE request"; "P2 fresh record replies"
 abbrev pub p1 : List ℕ
@@ -165,12 +201,61 @@ stray10 = 0x55 ∷ 0xAA ∷ 0x00 ∷ 0xFE ∷ 0x00 ∷ 0x01 ∷ []
 abbrev pub stray11 : List ℕ
 stray11 = 0x55 ∷ 0xAA ∷ 0x00 ∷ 0x56 ∷ 0x00 ∷ 0x00 ∷ []
 
--- before, action, outcome, reply, taken, dropped, command, L
-abbrev pub benchRow : List (List ℕ) → Action → ℕ → List ℕ → ℕ → ℕ → ℕ → ℕ → Row
-benchRow before action outcome reply taken dropped command L =
+-- ---- what is left
+
+-- 123456789 in the area, and nothing
+abbrev pub emptyArea : List ℕ
+emptyArea = zeros areaSize
+
+abbrev pub nineStored : List ℕ
+nineStored = 0x31 ∷ 0x32 ∷ 0x33 ∷ 0x34 ∷ 0x35 ∷ 0x36 ∷ 0x37 ∷ 0x38 ∷ 0x39 ∷ drop 9 emptyArea
+
+-- the bench's record, holding nothing, with this transfer
+abbrev pub benchRecord : Phase → ℕ → ℕ → ℕ → Identity → Check → Record
+benchRecord phase agreed next stored image check =
+    holdingNothing (record {
+      boards = board 10 ∷ replicate 9 noBoard;
+      count = 1;
+      opened = areaSize;
+      transfer =
+          record {
+            leg = record { phase = phase; channel = 10; agreed = agreed; next = next };
+            progress = record { stored = stored; last = stored };
+            image = image;
+            check = check;
+          };
+    })
+
+-- the identity that `fb9` tells
+abbrev pub nineBytes : Identity
+nineBytes = record { channel = 10; version = 1 ∷ 0 ∷ 3 ∷ []; announced = 9; md5 = zeros 16; crc = 0xCBF43926 }
+
+-- after P7
+abbrev pub nineTaken : Phase → Check → Record
+nineTaken phase check = benchRecord phase 256 1 9 nineBytes check
+
+-- ---- the rows
+
+-- a frame of the maker's, as the reading of a byte sequence has it
+abbrev pub oneFrame : ℕ → ℕ → List ℕ → Reading
+oneFrame version command d = record { frames = record { version = version; command = command; payload = d } ∷ []; dropped = 0 }
+
+-- with so many bytes dropped
+abbrev pub afterDropping : ℕ → Reading → Reading
+afterDropping n r = record { frames = r .frames; dropped = n }
+
+-- what is left: record and area
+pub record Left : Type 0 where
+  pub at : Record
+  pub area : List ℕ
+
+-- P numbers, before, bytes; then outcome, reply, taken, dropped, command, L, their reading, and what is left
+abbrev pub feedRow : List ℕ → List (List ℕ) → List ℕ → ℕ → List ℕ → ℕ → ℕ → ℕ → ℕ → Reading → Left → Row
+feedRow shows before bytes outcome reply taken dropped command L sequence left =
     record {
+      shows = shows;
       before = before;
-      action = action;
+      action = feeds bytes;
       wanted = record {
         earlier = true;
         outcome = outcome;
@@ -181,15 +266,20 @@ benchRow before action outcome reply taken dropped command L =
         L = L;
         count = 0;
         verdict = Unfinished;
+        sequence = sequence;
+        at = left .at;
+        room = reply ++ drop (length reply) lentRoom;
+        area = left .area;
       };
     }
 
--- before, the portion's largest number, outcome, reply, count, verdict
-abbrev pub portionRow : List (List ℕ) → ℕ → ℕ → List ℕ → ℕ → Verdict → Row
-portionRow before most outcome reply count verdict =
+-- P numbers, before, another action; then outcome, reply, count, verdict, and what is left
+abbrev pub otherRow : List ℕ → List (List ℕ) → Action → ℕ → List ℕ → ℕ → Verdict → Left → Row
+otherRow shows before action outcome reply count verdict left =
     record {
+      shows = shows;
       before = before;
-      action = checks most;
+      action = action;
       wanted = record {
         earlier = true;
         outcome = outcome;
@@ -200,27 +290,67 @@ portionRow before most outcome reply count verdict =
         L = 0;
         count = count;
         verdict = verdict;
+        sequence = record { frames = []; dropped = 0 };
+        at = left .at;
+        room = reply ++ drop (length reply) lentRoom;
+        area = left .area;
       };
     }
 
+abbrev pub untouched : Left
+untouched = record { at = fresh; area = emptyArea }
+
+abbrev pub asking : ℕ → Left
+asking agreed = record { at = benchRecord Asked agreed 0 0 noIdentity noCheck; area = emptyArea }
+
+abbrev pub taken9 : Phase → Check → Left
+taken9 phase check = record { at = nineTaken phase check; area = nineStored }
+
+-- a frame on channel 10, by its reading
+abbrev pub fa : ℕ → ℕ → Reading
+fa high low = oneFrame 0x00 0xFA (0x0A ∷ high ∷ low ∷ [])
+
+abbrev pub fe : ℕ → Reading
+fe channel = oneFrame 0x00 0xFE (channel ∷ [])
+
+abbrev pub packet9 : Reading
+packet9 =
+    oneFrame 0x10 0xFD
+    (0x0A ∷ 0x00 ∷ 0x00 ∷ 0x00 ∷ 0x09 ∷ 0x4B ∷ 0x37 ∷ 0x31 ∷ 0x32 ∷ 0x33 ∷ 0x34 ∷ 0x35 ∷ 0x36 ∷ 0x37 ∷ 0x38 ∷ 0x39 ∷ [])
+
 abbrev pub benchTable : List Row
 benchTable =
-    benchRow [] (feeds p1) 0 p2 8 0 0xFE 1
-    ∷ benchRow [] (feeds p3) 0 p4 10 0 0xFA 3
-    ∷ benchRow [] (feeds len15) 0 p5 10 0 0xFA 3
-    ∷ benchRow [] (feeds len16) 0 p4 10 0 0xFA 3
-    ∷ benchRow (p3 ∷ fb9 ∷ []) (feeds p6) 0 p6 12 0 0xFC 5
-    ∷ benchRow (p3 ∷ fb9 ∷ p6 ∷ []) (feeds p7) 0 p8 23 0 0xFD 16
-    ∷ benchRow (p3 ∷ fb9 ∷ p6 ∷ p7 ∷ []) (feeds p7) 0 p8 23 0 0xFD 16
-    ∷ benchRow (p3 ∷ fb9 ∷ p6 ∷ p7 ∷ []) (feeds p1) 0 [] 8 0 0xFE 1
-    ∷ benchRow (p3 ∷ fb9 ∷ p6 ∷ p7 ∷ p1 ∷ []) (feeds p1) 12 [] 8 0 0xFE 1
-    ∷ benchRow (p3 ∷ fb9 ∷ p6 ∷ p7 ∷ p1 ∷ []) (feeds p3) 12 [] 10 0 0xFA 3
-    ∷ benchRow (p3 ∷ fb9 ∷ p6 ∷ p7 ∷ p1 ∷ []) (feeds feOther) 4 [] 8 0 0xFE 1
-    ∷ portionRow (p3 ∷ fb9 ∷ p6 ∷ p7 ∷ p1 ∷ []) 9 0 success 9 Right
-    ∷ portionRow (p3 ∷ fb9 ∷ p6 ∷ p7 ∷ p7 ∷ p1 ∷ []) 10 0 success 9 Right
-    ∷ portionRow (p3 ∷ fb9 ∷ p6 ∷ p7 ∷ p1 ∷ []) 8 19 [] 8 Unfinished
-    ∷ portionRow [] 9 18 [] 0 Unfinished
-    ∷ benchRow [] reports 0 p9 0 0 0 0
-    ∷ benchRow [] (feeds (stray10 ++ p1)) 0 p2 14 6 0xFE 1
-    ∷ benchRow [] (feeds (stray11 ++ p1)) 2 [] 7 0 0x56 0
+    feedRow (1 ∷ 2 ∷ []) [] p1 0 p2 8 0 0xFE 1 (fe 10) untouched
+    ∷ feedRow (3 ∷ 4 ∷ []) [] p3 0 p4 10 0 0xFA 3 (fa 0x01 0x00) (asking 256)
+    ∷ feedRow (5 ∷ []) [] len15 0 p5 10 0 0xFA 3 (fa 0x00 0x0F) untouched
+    ∷ feedRow (5 ∷ []) [] len16 0 p4 10 0 0xFA 3 (fa 0x00 0x10) (asking 16)
+    ∷ feedRow (6 ∷ []) (p3 ∷ fb9 ∷ []) p6 0 p6 12 0 0xFC 5 (oneFrame 0x00 0xFC (0x0A ∷ zeros 4))
+    (record { at = benchRecord Receiving 256 0 0 nineBytes noCheck; area = emptyArea })
+    ∷ feedRow (7 ∷ 8 ∷ []) (p3 ∷ fb9 ∷ p6 ∷ []) p7 0 p8 23 0 0xFD 16 packet9 (taken9 Receiving noCheck)
+    ∷ feedRow (7 ∷ 8 ∷ []) (p3 ∷ fb9 ∷ p6 ∷ p7 ∷ []) p7 0 p8 23 0 0xFD 16 packet9 (taken9 Receiving noCheck)
+    ∷ otherRow (9 ∷ []) [] reports 0 p9 0 Unfinished untouched
+    ∷ feedRow (10 ∷ []) [] (stray10 ++ p1) 0 p2 14 6 0xFE 1 (afterDropping 6 (fe 10)) untouched
+    ∷ feedRow (11 ∷ []) [] (stray11 ++ p1) 2 [] 7 0 0x56 0 (afterDropping 7 (oneFrame 0x00 0x56 [])) untouched
+    ∷ feedRow [] (p3 ∷ fb9 ∷ p6 ∷ p7 ∷ []) p1 0 [] 8 0 0xFE 1 (fe 10) (taken9 Receiving startedCheck)
+    ∷ feedRow [] (p3 ∷ fb9 ∷ p6 ∷ p7 ∷ p1 ∷ []) p1 12 [] 8 0 0xFE 1 (fe 10) (taken9 Receiving startedCheck)
+    ∷ feedRow [] (p3 ∷ fb9 ∷ p6 ∷ p7 ∷ p1 ∷ []) p3 12 [] 10 0 0xFA 3 (fa 0x01 0x00) (taken9 Receiving startedCheck)
+    ∷ feedRow [] (p3 ∷ fb9 ∷ p6 ∷ p7 ∷ p1 ∷ []) feOther 4 [] 8 0 0xFE 1 (fe 11) (taken9 Receiving startedCheck)
+    ∷ otherRow [] (p3 ∷ fb9 ∷ p6 ∷ p7 ∷ p1 ∷ []) (checks 9) 0 success 9 Right (taken9 Done noCheck)
+    ∷ otherRow [] (p3 ∷ fb9 ∷ p6 ∷ p7 ∷ p7 ∷ p1 ∷ []) (checks 10) 0 success 9 Right (taken9 Done noCheck)
+    ∷ otherRow [] (p3 ∷ fb9 ∷ p6 ∷ p7 ∷ p1 ∷ []) (checks 8) 19 [] 8 Unfinished
+    (taken9 Receiving (readOn startedCheck 8 nineStored))
+    ∷ otherRow [] [] (checks 9) 18 [] 0 Unfinished untouched
     ∷ []
+
+-- P1's frame
+abbrev pub endRequest : Frame
+endRequest = record { version = 0x00; command = 0xFE; payload = 0x0A ∷ [] }
+
+-- The claim.
+pub record BenchHolds : Type 0 where
+  -- what each row wants is what is seen
+  pub rows : map (got emptyArea) benchTable ≡ map (λ r. r .wanted) benchTable
+  -- P10's bytes are P1's frame with six stray bytes; to P11's "Demand 3's premise shuts this out": they are no series of P1's frame, with
+  -- however many stray bytes
+  pub p10-series : Series (stray10 ++ p1) (endRequest ∷ []) 6
+  pub p11-no-series : (n : ℕ) → Series (stray11 ++ p1) (endRequest ∷ []) n → ⊥

@@ -3,27 +3,28 @@
 -- its runs start with no check running, finish each before the next feeding or quiet call not refused, and have not ended while one runs".
 -- Assumes nothing.
 use mathlib.Core.Path.{_≡_}
-use mathlib.Core.Bool.{Bool, true, false, cond, _&&_, _||_}
+use mathlib.Core.Bool.{Bool, true, false, cond, not, _&&_, _||_}
 use mathlib.Core.List.{List, [], _∷_, _++_}
 use Prim.Native.Nat.{ℕ, _+_}
 use lib.Dec.{eqb}
-use lib.ListN.{length, drop}
+use lib.ListN.{length, take, drop}
 use Rattle.sequences.specs.Bytes.{Bytes}
 use Rattle.fronts.specs.Frame.{Frame, encode}
 use Rattle.frames.specs.Finished.{finished}
-use Rattle.frames.specs.LiveReading.{Call, feeding, quiet, fedBy, due}
+use Rattle.frames.specs.LiveReading.{Call, feeding, quiet, due}
 use Rattle.frames.specs.Series.{Series}
 use Rattle.frames.specs.PlainRun.{Plain, plain, Begins}
 use Rattle.replies.specs.Replies.{replyFrame}
 use Rattle.session.specs.declared.session.Session.{Session}
 use Rattle.session.specs.declared.answer.Answer.{Answer}
-use Rattle.commands.specs.Outcomes.{accepted}
-use Rattle.session.specs.Answering.{areaAfter}
+use Rattle.commands.specs.Outcomes.{accepted, shortRoom, otherArea, rulesBroken}
+use Rattle.session.specs.Answering.{judged}
 use Rattle.session.specs.OneGo.{inOneGo}
 use Rattle.controller.specs.declared.record.Record.{Record}
 use Rattle.controller.specs.Records.{unlawfulRecord, isChecking, holdingNothing}
-use Rattle.controller.specs.Calls.{refusalOf, CallLeaves, calledBy, replyIn}
+use Rattle.controller.specs.Calls.{refusalOf, CallLeaves, fedCall, quietedCall, replyIn}
 use Rattle.controller.specs.Portions.{PortionLeaves, portionCall, CallKind, lineCall, portion}
+use Rattle.session.specs.Lawful.{unlawful}
 
 -- ---- "The plain run: fed the series' frames alone, one at a time."
 
@@ -38,7 +39,7 @@ answerTo s f = inOneGo (s .session) (finished f) (s .area)
 
 -- "Step: what "How the session answers" says of that frame, new state and reply"
 abbrev pub stepTo : State → Frame → State
-stepTo s f = record { session = answerTo s f .session; area = areaAfter (s .session) (finished f) (s .area) }
+stepTo s f = record { session = answerTo s f .session; area = judged (s .session) (finished f) (s .area) .area }
 
 -- "with outcome 2, 3, 4 or 10 no reply"; F9 has none either
 abbrev pub replyTo : State → Frame → List (List ℕ)
@@ -93,14 +94,25 @@ areaLeft (other memory) left area = area
 abbrev pub checking : Place → Bool
 checking p = isChecking (p .at)
 
--- what the contracts of `feed` and `quiet` say of the call, and that of `portion`
+-- what the contracts of `feed` and `quiet` say of the call, and that of `portion`; "a feeding call is offered any first part of the bytes
+-- not yet taken, even none"
 abbrev pub leavesOf : Call → Listed → Place → CallLeaves
-leavesOf k c p = calledBy (fedBy k (p .untaken)) (p .at) (c .room) (lent (c .lends) (p .area))
+leavesOf (feeding n) c p = fedCall (take n (p .untaken)) (p .at) (c .room) (lent (c .lends) (p .area))
+leavesOf quiet c p = quietedCall (p .at) (c .room) (lent (c .lends) (p .area))
 
 abbrev pub portionLeavesOf : ℕ → Listed → Place → PortionLeaves
 portionLeavesOf most c p = portionCall most (p .at) (c .room) (lent (c .lends) (p .area))
 
--- neither 9 nor 6 nor 5
+-- the outcome of the call
+abbrev pub outcomeIn : CallKind → Listed → Place → ℕ
+outcomeIn (lineCall k) c p = leavesOf k c p .called .outcome
+outcomeIn (portion most) c p = portionLeavesOf most c p .called .outcome
+
+-- 9, 6 and 5: the call is refused
+abbrev pub isRefusal : ℕ → Bool
+isRefusal n = eqb n rulesBroken || (eqb n otherArea || eqb n shortRoom)
+
+-- not refused, by what is lent; by its outcome it is the same (`RefusedMeans`)
 abbrev pub isAccepted : Listed → Place → Bool
 isAccepted c p = eqb (refusalOf (p .at) (length (c .room)) (length (lent (c .lends) (p .area)))) accepted
 
@@ -205,5 +217,24 @@ pub record Demand3 : Type 0 where
       → (calls calls′ : List Listed) → AllAllowed calls (start r area b) → AllAllowed calls′ (start r area b′)
       → Ended (run calls (start r area b)) → Ended (run calls′ (start r area b′))
       → EqualAtEnd (run calls (start r area b)) (run calls′ (start r area b′))
-  -- every byte sequence can be run to its end, so that nothing is claimed of an empty set
-  pub ends : (r : Record) (area : List ℕ) → RunStart r area → (b : List ℕ) → Bytes b → Ending (start r area b)
+  -- after every list of calls the run of any bytes can be brought to its end, so that nothing is claimed of an empty set
+  pub ends :
+      (r : Record) (area : List ℕ) → RunStart r area → (b : List ℕ) → Bytes b
+      → (calls : List Listed) → AllAllowed calls (start r area b) → Ending (run calls (start r area b))
+
+-- ---- what its definitions mean
+
+-- The claim: a call of the list is refused exactly when its outcome is 9, 6 or 5. A portion's 18 is no refusal here; it changes nothing
+-- either.
+abbrev pub RefusedMeans : Type 0
+RefusedMeans = (c : Listed) (p : Place) → isAccepted c p ≡ not (isRefusal (outcomeIn (c .kind) c p))
+
+-- The claim: the plain run's record stays lawful, its area of the opened length and no check runs. So no frame of it would meet 9, 6 or 12,
+-- and it makes no difference that a call first asks 9 and 6 (`LawfulAsJudged`).
+pub record StaysLawful (s : State) : Type 0 where
+  pub lawful : unlawful (s .session) ≡ false
+  pub size : length (s .area) ≡ s .session .opened
+  pub no-check : s .session .transfer .check .running ≡ false
+
+abbrev pub PlainRunLawful : Type 0
+PlainRunLawful = (r : Record) (area : List ℕ) → RunStart r area → (fs : List Frame) → StaysLawful (plainRun r area fs .state)

@@ -1,5 +1,5 @@
--- 01, "Outcome numbers": what a feeding or quiet call leaves, outcome by outcome, and when it gives 9. Document 02, K5: what a portion call
--- leaves, and when it gives each of its outcomes. And that a lawful record stays lawful. Assumes nothing.
+-- 01, "Outcome numbers": what a feeding or quiet call leaves, outcome by outcome, and when it gives 9, 6 and 5. Document 02, K5: what a
+-- portion call leaves, and when it gives each of its outcomes. And that a lawful record stays lawful. Assumes nothing.
 use mathlib.Core.Path.{_≡_}
 use mathlib.Core.Bool.{true, false}
 use mathlib.Core.Logic.{_↔_, _⊎_}
@@ -46,10 +46,16 @@ pub record SessionUnchanged (r : Record) (room area : List ℕ) (x : CallLeaves)
 abbrev pub IsRefusal : ℕ → Type 0
 IsRefusal n = (n ≡ shortRoom) ⊎ ((n ≡ otherArea) ⊎ (n ≡ rulesBroken))
 
+-- "Calls check 9, 6, 5": "Outcome 9 is given exactly when" the record breaks its rules, and 6 and 5 exactly when theirs are broken and
+-- nothing before them is
+pub record Refuses (r : Record) (room area : List ℕ) (outcome : ℕ) : Type 0 where
+  pub nine : (outcome ≡ rulesBroken) ↔ (unlawfulRecord r ≡ true)
+  pub six : unlawfulRecord r ≡ false → (outcome ≡ otherArea) ↔ (length area ≡ r .session .opened → ⊥)
+  pub five : unlawfulRecord r ≡ false → length area ≡ r .session .opened → (outcome ≡ shortRoom) ↔ (length room < minRoom)
+
 -- of a call on the record r, the bytes `rest` being not yet taken
 pub record OutcomesLeave (c : Call) (rest : List ℕ) (r : Record) (room area : List ℕ) (x : CallLeaves) : Type 0 where
-  -- "Outcome 9 is given exactly when" the record breaks its rules
-  pub nine : (x .called .outcome ≡ rulesBroken) ↔ (unlawfulRecord r ≡ true)
+  pub refuses : Refuses r room area (x .called .outcome)
   pub refused : IsRefusal (x .called .outcome) → AllUnchanged r room area x
   -- "A call with any other outcome leaves zeros past the held bytes."
   pub holds : (IsRefusal (x .called .outcome) → ⊥) → x .called .next .reader ≡ holding (called c (heldBytes (r .reader)) rest .held)
@@ -89,10 +95,8 @@ pub record Counted (most : ℕ) (t : Transfer) (area : List ℕ) (x : PortionLea
   pub number : x .called .outcome ≡ outcomeOf (x .called .verdict)
 
 pub record PortionOutcomes (most : ℕ) (r : Record) (room area : List ℕ) (x : PortionLeaves) : Type 0 where
-  -- "refuse 9, 6, 5, then 18 when no check runs": each where those before it are not given
-  pub nine : (x .called .outcome ≡ rulesBroken) ↔ (unlawfulRecord r ≡ true)
-  pub six : unlawfulRecord r ≡ false → (x .called .outcome ≡ otherArea) ↔ (length area ≡ r .session .opened → ⊥)
-  pub five : unlawfulRecord r ≡ false → length area ≡ r .session .opened → (x .called .outcome ≡ shortRoom) ↔ (length room < minRoom)
+  -- "refuse 9, 6, 5, then 18 when no check runs"
+  pub refuses : Refuses r room area (x .called .outcome)
   pub eighteen : unlawfulRecord r ≡ false → length area ≡ r .session .opened → minRoom ≤ length room
       → (x .called .outcome ≡ noCheckRuns) ↔ (isChecking r ≡ false)
   -- "count 0, unfinished, nothing changed"

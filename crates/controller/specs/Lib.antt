@@ -6,5 +6,7 @@ pub mod OutwardReport
 pub mod Leaving
 pub mod CheckCourse
 pub mod EndRequest
+pub mod EndRequestBytes
 pub mod Demand3
+pub mod Openings
 pub mod Bench

@@ -2,3 +2,4 @@
 pub mod Crc
 pub mod Tables
 pub mod Folding
+pub mod Published

@@ -8,16 +8,16 @@ use Rattle.text.specs.Outputs.{TextsAdded}
 use Rattle.text.proofs.Texts.{texts-as, _then_}
 use Rattle.desk.specs.declared.desk.Desk.{Desk}
 use Rattle.desk.specs.Desks.{withOutput}
-use Rattle.desk.specs.Telling.{Told}
+use Rattle.desk.specs.Telling.{DeskTold}
 use Rattle.desk.specs.Effects.{callTexts}
 
 -- what is told behind the line so far
 pub told-behind : {line mid : Output} {after : Desk} {s t : List (List ℕ)} {out between out′ : List ℕ} {r : Desk}
-    → TextsAdded line s out mid between → Told mid after t between r out′ → Told line after (s ++ t) out r out′
+    → TextsAdded line s out mid between → DeskTold mid after t between r out′ → DeskTold line after (s ++ t) out r out′
 told-behind a b = record { leaves = b .leaves; tells = a then b .tells }
 
 pub told-as : {line : Output} {after after′ : Desk} {s t : List (List ℕ)} {out out′ : List ℕ} {r : Desk} → after ≡ after′ → s ≡ t
-    → Told line after s out r out′ → Told line after′ t out r out′
+    → DeskTold line after s out r out′ → DeskTold line after′ t out r out′
 told-as {r = r} e f a = record { leaves = a .leaves ∙ ap (λ (d : Desk). withOutput d (r .output)) e; tells = texts-as f (a .tells) }
 
 -- a line of feeding or quiet in other words
@@ -29,6 +29,6 @@ call-texts-as d number name {c} {c′} {k} {k′} {r} {r′} {l} {l′} {s} {s�
     ∙ ap₂ (λ (x : List ℕ) (y : List ℕ). callTexts d number name c′ k′ r′ x y) h i
 
 -- of another desk that is the same
-pub told-of : {d e : Desk} {t : List (List ℕ)} {out out′ : List ℕ} {r : Desk} → d ≡ e → Told (d .output) d t out r out′
-    → Told (e .output) e t out r out′
-told-of {t = t} {out = out} {out′ = out′} {r = r} e a = subst (λ (x : Desk). Told (x .output) x t out r out′) e a
+pub told-of : {d e : Desk} {t : List (List ℕ)} {out out′ : List ℕ} {r : Desk} → d ≡ e → DeskTold (d .output) d t out r out′
+    → DeskTold (e .output) e t out r out′
+told-of {t = t} {out = out} {out′ = out′} {r = r} e a = subst (λ (x : Desk). DeskTold (x .output) x t out r out′) e a

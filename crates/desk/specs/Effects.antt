@@ -7,7 +7,7 @@ use Prim.Native.Nat.{ℕ, _+_}
 use lib.Dec.{eqb, ltb}
 use lib.ListN.{length, take}
 use Rattle.answers.specs.Answers.{begunTexts, calledTexts, portionedTexts, framedTexts, decidedTexts, changedTexts, senderChangedTexts}
-use Rattle.answers.specs.Answers.{endTexts}
+use Rattle.answers.specs.Answers.{lineEnd}
 use Rattle.controller.specs.declared.record.Record.{Record}
 use Rattle.controller.specs.Records.{noRecord, openedRecord}
 use Rattle.controller.specs.Calls.{CallLeaves, fedCall, quietedCall}
@@ -33,8 +33,8 @@ use Rattle.text.specs.Ascii.{ascii}
 use Rattle.text.specs.Decimals.{decimal}
 use Rattle.desk.specs.declared.desk.Desk.{Desk}
 use Rattle.desk.specs.Desks.{withRecord, withSender, withList, lending}
-use Rattle.desk.specs.Lent.{within, leftAs}
-use Rattle.desk.specs.Telling.{Told}
+use Rattle.desk.specs.Lent.{lentLength, leftAs}
+use Rattle.desk.specs.Telling.{DeskTold}
 
 -- "the memory has no place for the last of them": n bytes from place `at` on, of so many
 abbrev pub isPast : ℕ → ℕ → ℕ → Bool
@@ -42,7 +42,7 @@ isPast size at n = ltb size (at + n)
 
 -- a line of nothing but its number and a text, which has a space before it
 abbrev pub lineTexts : ℕ → List ℕ → List (List ℕ)
-lineTexts number text = begunTexts number text ++ endTexts
+lineTexts number text = begunTexts number text ++ lineEnd
 
 abbrev pub okText : List ℕ
 okText = ascii " ok"
@@ -53,7 +53,7 @@ pastText = ascii " bad the bytes go past the end"
 
 -- "answered with its number, `bad` and the first of these that fits"
 abbrev pub badTexts : ℕ → Phrase → List (List ℕ)
-badTexts number p = begunTexts number (ascii " bad ") ++ troubleTexts p ++ endTexts
+badTexts number p = begunTexts number (ascii " bad ") ++ troubleTexts p ++ lineEnd
 
 -- ---- the memories and the list
 
@@ -82,17 +82,17 @@ quietName = ascii " quiet "
 module _ (d : Desk) where
   -- the part of a memory that is lent
   abbrev pub lentRoom : List ℕ → List ℕ
-  lentRoom room = take (within (d .room)) room
+  lentRoom room = take (lentLength (d .room)) room
 
   abbrev pub lentArea : List ℕ → List ℕ
-  lentArea area = take (within (d .area)) area
+  lentArea area = take (lentLength (d .area)) area
 
   -- the room with another part lent, the area with another
   abbrev pub roomLeft : List ℕ → List ℕ → List ℕ
-  roomLeft x room = leftAs x (within (d .room)) room
+  roomLeft x room = leftAs x (lentLength (d .room)) room
 
   abbrev pub areaLeft : List ℕ → List ℕ → List ℕ
-  areaLeft x area = leftAs x (within (d .area)) area
+  areaLeft x area = leftAs x (lentLength (d .area)) area
 
   -- the feeding call, the quiet call and the portion call on what is lent
   abbrev pub fedLent : List ℕ → List ℕ → List ℕ → CallLeaves
@@ -129,7 +129,7 @@ module _ (d : Desk) (number : ℕ) where
     pub leaves-room : room′ ≡ roomLeft d (x .room) room
     pub leaves-area : area′ ≡ areaLeft d (x .area) area
     pub tells :
-        Told (d .output) (withRecord d (x .called .next))
+        DeskTold (d .output) (withRecord d (x .called .next))
         (callTexts name (x .called) (lentRoom d room) (lentRoom d (roomLeft d (x .room) room)) (lentArea d area)
         (lentArea d (areaLeft d (x .area) area)))
         out r out′
@@ -143,7 +143,7 @@ module _ (d : Desk) (number : ℕ) where
 
   pub record PortionDone (x : PortionLeaves) (room out : List ℕ) (r : Desk) (room′ out′ : List ℕ) : Type 0 where
     pub leaves-room : room′ ≡ roomLeft d (x .room) room
-    pub tells : Told (d .output) (withRecord d (x .called .next)) (portionTexts x room) out r out′
+    pub tells : DeskTold (d .output) (withRecord d (x .called .next)) (portionTexts x room) out r out′
 
   -- `report OUTCOME frame=BYTES past=SPAN`
   abbrev pub reportTexts : List ℕ → List (List ℕ)
@@ -190,7 +190,7 @@ module _ (d : Desk) (number : ℕ) where
   decisionTexts name x = begunTexts number name ++ decidedTexts x ++ senderChangedTexts (d .sender) (x .next)
 
   abbrev pub Decides : List ℕ → Decided → List ℕ → Desk → List ℕ → Type 0
-  Decides name x out r out′ = Told (d .output) (withSender d (x .next)) (decisionTexts name x) out r out′
+  Decides name x out r out′ = DeskTold (d .output) (withSender d (x .next)) (decisionTexts name x) out r out′
 
   -- `sender show CHANGES`, "since the all-zero record"
   abbrev pub senderShowTexts : List (List ℕ)

@@ -11,8 +11,8 @@ abbrev pub memorySize : ℕ
 memorySize = 65536
 
 -- as many as are lent, but no more than there are
-abbrev pub within : ℕ → ℕ
-within n = n - (n - memorySize)
+abbrev pub lentLength : ℕ → ℕ
+lentLength n = n - (n - memorySize)
 
 -- a memory of which the first n bytes were lent, and left as x
 abbrev pub leftAs : List ℕ → ℕ → List ℕ → List ℕ

@@ -7,14 +7,14 @@ use lib.Dec.{eqb, ltb}
 use lib.ListN.{length, take}
 use Rattle.controller.specs.Calls.{CallLeaves}
 use Rattle.phrases.specs.declared.phrase.Phrase.{Phrase}
-use Rattle.phrases.specs.Places.{writeRoomAt, writeAreaAt, writeImageAt, boardAt, openAt, feedAt, quietAt, portionAt, reportAt}
+use Rattle.phrases.specs.Places.{writeRoomAt, writeAreaAt, writeImageAt, boardCommandAt, openAt, feedAt, quietAt, portionAt, reportAt}
 use Rattle.phrases.specs.Places.{setBoardsAt, senderOpenAt, senderRequestAt, senderReplyAt, senderSilenceAt, senderSetChannelAt}
 use Rattle.sender.specs.Replies.{afterReply}
 use Rattle.sender.specs.Silences.{afterSilence}
 use Rattle.sequences.specs.Places.{writtenAt}
 use Rattle.desk.specs.declared.desk.Desk.{Desk}
 use Rattle.desk.specs.Desks.{isBad, withRecord, withSender}
-use Rattle.desk.specs.Telling.{Told}
+use Rattle.desk.specs.Telling.{DeskTold}
 use Rattle.desk.specs.Effects.{lineTexts, okText, badTexts, writeTexts, lent, boarded, feedName, quietName, lentRoom, lentArea}
 use Rattle.desk.specs.Effects.{roomLeft, areaLeft, fedLent, quietedLent, portionLent, reportRoom, openDesk, openTexts, callTexts}
 use Rattle.desk.specs.Effects.{portionTexts, reportTexts, showTexts, replyName, silenceName, senderOpenDesk, requestRoom}
@@ -22,7 +22,7 @@ use Rattle.desk.specs.Effects.{senderOpenTexts, requestTexts, decisionTe
 use Rattle.desk.specs.Effects.{senderSetTexts}
 
 -- the desk and the three memories after a command, and the line that it is answered with
-pub record Effect : Type 0 where
+pub record DeskEffect : Type 0 where
   pub desk : Desk
   pub texts : List (List ℕ)
   pub room : List ℕ
@@ -30,8 +30,8 @@ pub record Effect : Type 0 where
   pub image : List ℕ
 
 -- the contract: all of it is the definition's, and the line stands behind those that wait
-pub record Done (e : Effect) (d : Desk) (out : List ℕ) (r : Desk) (room area image out′ : List ℕ) : Type 0 where
-  pub tells : Told (d .output) (e .desk) (e .texts) out r out′
+pub record Done (e : DeskEffect) (d : Desk) (out : List ℕ) (r : Desk) (room area image out′ : List ℕ) : Type 0 where
+  pub tells : DeskTold (d .output) (e .desk) (e .texts) out r out′
   pub leaves-room : room ≡ e .room
   pub leaves-area : area ≡ e .area
   pub leaves-image : image ≡ e .image
@@ -42,11 +42,11 @@ module _ (d : Desk) (number : ℕ) (p : Phrase) (b room area image : List ℕ) w
   brought = take (p .count) b
 
   -- the memories stay
-  abbrev pub telling : Desk → List (List ℕ) → Effect
+  abbrev pub telling : Desk → List (List ℕ) → DeskEffect
   telling after texts = record { desk = after; texts = texts; room = room; area = area; image = image }
 
   -- `write ..`, `board`, `room`, `area`, `image`
-  unfoldable pub remembered : Effect
+  unfoldable pub remembered : DeskEffect
   remembered =
       cond (eqb (p .command) writeRoomAt)
       (record {
@@ -72,11 +72,11 @@ module _ (d : Desk) (number : ℕ) (p : Phrase) (b room area image : List ℕ) w
         area = area;
         image = writtenAt image (p .first) brought;
       })
-      (cond (eqb (p .command) boardAt) (telling (boarded d p b) (lineTexts number okText))
+      (cond (eqb (p .command) boardCommandAt) (telling (boarded d p b) (lineTexts number okText))
       (telling (lent d (p .command) (p .first)) (lineTexts number okText)))))
 
   -- feeding or quiet, of which x is left
-  abbrev pub calledEffect : List ℕ → CallLeaves → Effect
+  abbrev pub calledEffect : List ℕ → CallLeaves → DeskEffect
   calledEffect name x =
       record {
         desk = withRecord d (x .called .next);
@@ -88,7 +88,7 @@ module _ (d : Desk) (number : ℕ) (p : Phrase) (b room area image : List ℕ) w
         image = image;
       }
 
-  abbrev pub portionEffect : Effect
+  abbrev pub portionEffect : DeskEffect
   portionEffect =
       let x = portionLent d (p .first) room area in
       record {
@@ -99,17 +99,17 @@ module _ (d : Desk) (number : ℕ) (p : Phrase) (b room area image : List ℕ) w
         image = image;
       }
 
-  abbrev pub reportEffect : Effect
+  abbrev pub reportEffect : DeskEffect
   reportEffect = record { desk = d; texts = reportTexts d number room; room = reportRoom d room; area = area; image = image }
 
   -- `portion`, `report`, `show`
-  unfoldable pub watched : Effect
+  unfoldable pub watched : DeskEffect
   watched =
       cond (eqb (p .command) portionAt) portionEffect
       (cond (eqb (p .command) reportAt) reportEffect (telling d (showTexts d number)))
 
   -- `open`, `feed`, `quiet`, and those
-  unfoldable pub controlled : Effect
+  unfoldable pub controlled : DeskEffect
   controlled =
       cond (eqb (p .command) openAt) (telling (openDesk d p) (openTexts d number p))
       (cond (eqb (p .command) feedAt) (calledEffect feedName (fedLent d brought room area))
@@ -119,7 +119,7 @@ module _ (d : Desk) (number : ℕ) (p : Phrase) (b room area image : List ℕ) w
   abbrev pub lentImage : List ℕ
   lentImage = take (d .image) image
 
-  abbrev pub requestEffect : Effect
+  abbrev pub requestEffect : DeskEffect
   requestEffect =
       record {
         desk = d;
@@ -130,7 +130,7 @@ module _ (d : Desk) (number : ℕ) (p : Phrase) (b room area image : List ℕ) w
       }
 
   -- `sender open`, `sender request`, `sender reply`, `sender silence`, `sender show`
-  unfoldable pub sent : Effect
+  unfoldable pub sent : DeskEffect
   sent =
       let replied = afterReply (d .sender) lentImage brought in
       let unheard = afterSilence (d .sender) (length lentImage) in
@@ -142,7 +142,7 @@ module _ (d : Desk) (number : ℕ) (p : Phrase) (b room area image : List ℕ) w
       (telling d (senderShowTexts d number)))))
 
   -- a command, by its place in the table; "A line that is no command changes nothing"
-  unfoldable pub obeyed : Effect
+  unfoldable pub obeyed : DeskEffect
   obeyed =
       cond (isBad (p .trouble)) (telling d (badTexts number p))
       (cond (ltb (p .command) openAt) remembered

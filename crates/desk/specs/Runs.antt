@@ -18,14 +18,14 @@ use Rattle.text.specs.Outputs.{Flushed}
 use Rattle.desk.specs.declared.desk.Desk.{Desk}
 use Rattle.desk.specs.declared.run.Run.{Run}
 use Rattle.desk.specs.Desks.{emptyDesk, withOutput}
-use Rattle.desk.specs.Telling.{Told}
+use Rattle.desk.specs.Telling.{DeskTold}
 use Rattle.desk.specs.Effects.{lineTexts}
 use Rattle.desk.specs.Obeying.{obeyed, Done}
 
-abbrev pub startRun : Run
-startRun = record { lines = noLines; desk = emptyDesk; «is_over» = false }
+abbrev pub freshRun : Run
+freshRun = record { lines = noLines; desk = emptyDesk; «is_over» = false }
 
--- "A line of no bytes, and one that begins with `#` (35), is passed over"
+-- "A line of no bytes, and one that begins with `#`, is passed over"; `#` has the code 35
 abbrev pub isPassedOver : List ℕ → Bool
 isPassedOver line = cond (eqb (length line) 0) true (eqb (byteAt 0 line) 35)
 
@@ -61,27 +61,27 @@ LineDone false run l line bytes room area image out r bytes′ room′ area′ i
 pub record PassedTooLong (run : Run) (l : Lines) (out : List ℕ) (r : Run) (out′ : List ℕ) : Type 0 where
   pub keeps : r .lines ≡ l
   pub goes-on : r .«is_over» ≡ run .«is_over»
-  pub tells : Told (run .desk .output) (run .desk) (lineTexts (l .number) longText) out (r .desk) out′
+  pub tells : DeskTold (run .desk .output) (run .desk) (lineTexts (l .number) longText) out (r .desk) out′
 
--- what waits is written, and the input is read on; "A failed read or write .. ends the program"
-pub record ReadsOn (run : Run) (l : Lines) (input : List ℕ) (r : Run) (input′ : List ℕ) : Type 0 where
+-- what waits is written, and the input is read on; a failed read, or write, ends the program
+pub record InputRead (run : Run) (l : Lines) (input : List ℕ) (r : Run) (input′ : List ℕ) : Type 0 where
   pub keeps : r .desk ≡ withOutput (run .desk) (r .desk .output)
   pub writes : Flushed (run .desk .output) (r .desk .output)
   pub ends : r .desk .output .failed ≡ true → (r .lines ≡ l) × ((r .«is_over» ≡ true) × (input′ ≡ input))
   pub reads : r .desk .output .failed ≡ false → ReadOn l input (r .lines) input′ × (r .«is_over» ≡ r .lines .failed)
 
 -- a turn, by what comes next
-abbrev pub Turned : Kind → Next → Run → List ℕ → List ℕ → List ℕ → List ℕ → List ℕ → List ℕ → Run → List ℕ → List ℕ → List ℕ → List ℕ
+abbrev pub SessionTurned : Kind → Next → Run → List ℕ → List ℕ → List ℕ → List ℕ → List ℕ → List ℕ → Run → List ℕ → List ℕ → List ℕ → List ℕ
     → List ℕ → List ℕ → Type 0
-Turned Line next run input bytes room area image out r input′ bytes′ room′ area′ image′ out′ =
+SessionTurned Line next run input bytes room area image out r input′ bytes′ room′ area′ image′ out′ =
     let line = take (next .length) (drop (next .from) input) in
     LineDone (isPassedOver line) run (next .lines) line bytes room area image out r bytes′ room′ area′ image′ out′ × (input′ ≡ input)
-Turned TooLong next run input bytes room area image out r input′ bytes′ room′ area′ image′ out′ =
+SessionTurned TooLong next run input bytes room area image out r input′ bytes′ room′ area′ image′ out′ =
     PassedTooLong run (next .lines) out r out′
     × ((input′ ≡ input) × ((bytes′ ≡ bytes) × ((room′ ≡ room) × ((area′ ≡ area) × (image′ ≡ image)))))
-Turned Unfinished next run input bytes room area image out r input′ bytes′ room′ area′ image′ out′ =
-    ReadsOn run (next .lines) input r input′
+SessionTurned Unfinished next run input bytes room area image out r input′ bytes′ room′ area′ image′ out′ =
+    InputRead run (next .lines) input r input′
     × ((bytes′ ≡ bytes) × ((room′ ≡ room) × ((area′ ≡ area) × ((image′ ≡ image) × (out′ ≡ out)))))
-Turned None next run input bytes room area image out r input′ bytes′ room′ area′ image′ out′ =
+SessionTurned None next run input bytes room area image out r input′ bytes′ room′ area′ image′ out′ =
     (r ≡ ended run (next .lines))
     × ((input′ ≡ input) × ((bytes′ ≡ bytes) × ((room′ ≡ room) × ((area′ ≡ area) × ((image′ ≡ image) × (out′ ≡ out))))))

@@ -8,6 +8,6 @@ use Rattle.desk.specs.declared.desk.Desk.{Desk}
 use Rattle.desk.specs.Desks.{withOutput}
 
 -- the texts are put behind what `line` has; the desk is the one given, but for its output
-pub record Told (line : Output) (after : Desk) (texts : List (List ℕ)) (out : List ℕ) (r : Desk) (out′ : List ℕ) : Type 0 where
+pub record DeskTold (line : Output) (after : Desk) (texts : List (List ℕ)) (out : List ℕ) (r : Desk) (out′ : List ℕ) : Type 0 where
   pub leaves : r ≡ withOutput after (r .output)
   pub tells : TextsAdded line texts out (r .output) out′

@@ -14,7 +14,7 @@ use text::output::SIZE;
 ghost use mathlib.Core.Path.{_≡_};
 ghost use lib.ListN.{take};
 ghost use Rattle.desk.specs.Desks.{withRecord};
-ghost use Rattle.desk.specs.Telling.{Told};
+ghost use Rattle.desk.specs.Telling.{DeskTold};
 ghost use Rattle.desk.specs.Obeying.{WatchDone, ControlDone};
 ghost use Rattle.desk.specs.Effects.{feedName, quietName, fedLent, quietedLent, portionLent, openTexts, openDesk, callTexts};
 ghost use Rattle.desk.specs.Effects.{CallDone, PortionDone, reportTexts, reportRoom, showTexts};
@@ -71,7 +71,7 @@ impl Desk {
     }
 
     fn open(self, number: u64, phrase: Phrase, out: &mut [u8; SIZE]) -> Desk
-        ensures { λ r. ⌜ Told (self .output) (openDesk self phrase) (openTexts self number phrase) (now (out .entry)) r (now (out .exit)) ⌝ }
+        ensures { λ r. ⌜ DeskTold (self .output) (openDesk self phrase) (openTexts self number phrase) (now (out .entry)) r (now (out .exit)) ⌝ }
     {
         let list = self.list;
         let o = Record::open(list, phrase.first, phrase.second);
@@ -149,7 +149,7 @@ impl Desk {
         area: &[u8; MEMORY],
         out: &mut [u8; SIZE],
     ) -> Desk
-        ensures { λ r. ⌜ Told (self .output) (withRecord self (c .next))
+        ensures { λ r. ⌜ DeskTold (self .output) (withRecord self (c .next))
             (callTexts self number (now (name .entry)) c (take n (now (kept .entry))) (take n (now (room .entry)))
             (take m (now («kept_area» .entry))) (take m (now (area .entry))))
             (now (out .entry)) r (now (out .exit)) ⌝ }
@@ -197,7 +197,7 @@ impl Desk {
         kept: &mut [u8; MEMORY],
         out: &mut [u8; SIZE],
     ) -> Desk
-        ensures { λ r. ⌜ Told (self .output) self (reportTexts self number (now (room .entry))) (now (out .entry)) r (now (out .exit)) ⌝ }
+        ensures { λ r. ⌜ DeskTold (self .output) self (reportTexts self number (now (room .entry))) (now (out .entry)) r (now (out .exit)) ⌝ }
         ensures { λ _. ⌜ now (room .exit) ≡ reportRoom self (now (room .entry)) ⌝ }
     {
         let n = smaller(self.room, MEMORY);
@@ -218,7 +218,7 @@ impl Desk {
 
     // Nothing is done: the record is told as it differs from the all-zero one.
     fn show(mut self, number: u64, out: &mut [u8; SIZE]) -> Desk
-        ensures { λ r. ⌜ Told (self .output) self (showTexts self number) (now (out .entry)) r (now (out .exit)) ⌝ }
+        ensures { λ r. ⌜ DeskTold (self .output) self (showTexts self number) (now (out .entry)) r (now (out .exit)) ⌝ }
     {
         let record = self.record;
         let begun = answers::begun(self.output, number, b" show", &mut *out);

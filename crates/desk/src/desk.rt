@@ -17,7 +17,7 @@ ghost use mathlib.Core.Path.{_≡_};
 ghost use Rattle.controller.specs.Records.{noRecord};
 ghost use Rattle.text.specs.Outputs.{Flushed};
 ghost use Rattle.desk.specs.Desks.{emptyDesk, isBad, withRecord, withSender, withOutput};
-ghost use Rattle.desk.specs.Telling.{Told};
+ghost use Rattle.desk.specs.Telling.{DeskTold};
 ghost use Rattle.desk.specs.Obeying.{obeyed, Done};
 ghost use Rattle.answers.specs.Answers.{changedTexts, senderChangedTexts};
 
@@ -104,7 +104,7 @@ impl Desk {
 
     // With another record; how it differs ends the line.
     pub(crate) fn with_record(mut self, line: Output, after: Record, out: &mut [u8; SIZE]) -> Desk
-        ensures { λ r. ⌜ Told line (withRecord self after) (changedTexts (self .record) after) (now (out .entry)) r (now (out .exit)) ⌝ }
+        ensures { λ r. ⌜ DeskTold line (withRecord self after) (changedTexts (self .record) after) (now (out .entry)) r (now (out .exit)) ⌝ }
     {
         let before = self.record;
         self.output = answers::changed(line, before, after, out);
@@ -114,7 +114,7 @@ impl Desk {
 
     // With another record of the sender.
     pub(crate) fn with_sender(mut self, line: Output, after: Sender, out: &mut [u8; SIZE]) -> Desk
-        ensures { λ r. ⌜ Told line (withSender self after) (senderChangedTexts (self .sender) after) (now (out .entry)) r (now (out .exit)) ⌝ }
+        ensures { λ r. ⌜ DeskTold line (withSender self after) (senderChangedTexts (self .sender) after) (now (out .entry)) r (now (out .exit)) ⌝ }
     {
         let before = self.sender;
         self.output = answers::sender_changed(line, before, after, out);

@@ -10,7 +10,7 @@ use sequences::place;
 use text::output::SIZE;
 ghost use mathlib.Core.Path.{_≡_};
 ghost use Rattle.sequences.specs.Places.{writtenAt};
-ghost use Rattle.desk.specs.Telling.{Told};
+ghost use Rattle.desk.specs.Telling.{DeskTold};
 ghost use Rattle.desk.specs.Obeying.{remembered, Done};
 ghost use Rattle.desk.specs.Effects.{isPast, lineTexts, okText, writeTexts, lent, boarded};
 
@@ -74,7 +74,7 @@ impl Desk {
         memory: &mut [u8],
         out: &mut [u8; SIZE],
     ) -> Desk
-        ensures { λ r. ⌜ Told (self .output) self (writeTexts number at (now (new .entry)) (now (memory .entry))) (now (out .entry)) r
+        ensures { λ r. ⌜ DeskTold (self .output) self (writeTexts number at (now (new .entry)) (now (memory .entry))) (now (out .entry)) r
             (now (out .exit)) ⌝ }
         ensures { λ _. ⌜ now (memory .exit) ≡ writtenAt (now (memory .entry)) at (now (new .entry)) ⌝ }
     {
@@ -86,14 +86,14 @@ impl Desk {
     }
 
     fn ok(self, number: u64, out: &mut [u8; SIZE]) -> Desk
-        ensures { λ r. ⌜ Told (self .output) self (lineTexts number okText) (now (out .entry)) r (now (out .exit)) ⌝ }
+        ensures { λ r. ⌜ DeskTold (self .output) self (lineTexts number okText) (now (out .entry)) r (now (out .exit)) ⌝ }
     {
         self.line(number, b" ok", out)
     }
 
     // A line of nothing but its number and a text.
     pub(crate) fn line(mut self, number: u64, text: &[u8], out: &mut [u8; SIZE]) -> Desk
-        ensures { λ r. ⌜ Told (self .output) self (lineTexts number (now (text .entry))) (now (out .entry)) r (now (out .exit)) ⌝ }
+        ensures { λ r. ⌜ DeskTold (self .output) self (lineTexts number (now (text .entry))) (now (out .entry)) r (now (out .exit)) ⌝ }
     {
         let begun = answers::begun(self.output, number, text, &mut *out);
         self.output = answers::ended(begun, out);

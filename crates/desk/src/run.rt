@@ -10,7 +10,7 @@ use phrases::phrase::BYTES;
 use sequences::part::part;
 use text::output::SIZE;
 ghost use mathlib.Core.Path.{_≡_};
-ghost use Rattle.desk.specs.Runs.{startRun, isPassedOver, ended, LineDone, PassedTooLong, ReadsOn, Turned};
+ghost use Rattle.desk.specs.Runs.{freshRun, isPassedOver, ended, LineDone, PassedTooLong, InputRead, SessionTurned};
 ghost use Rattle.lines.specs.Lines.{nextLine};
 
 pub struct Run {
@@ -21,7 +21,7 @@ pub struct Run {
 
 impl Run {
     pub fn start() -> Run
-        ensures { λ r. ⌜ r ≡ startRun ⌝ }
+        ensures { λ r. ⌜ r ≡ freshRun ⌝ }
     {
         let lines = Lines::none();
         let desk = Desk::empty();
@@ -44,7 +44,7 @@ impl Run {
         kept_area: &mut [u8; MEMORY],
         out: &mut [u8; SIZE],
     ) -> Run
-        ensures { λ r. ⌜ Turned (nextLine (self .lines) (now (input .entry)) .kind) (nextLine (self .lines) (now (input .entry))) self
+        ensures { λ r. ⌜ SessionTurned (nextLine (self .lines) (now (input .entry)) .kind) (nextLine (self .lines) (now (input .entry))) self
             (now (input .entry)) (now (bytes .entry)) (now (room .entry)) (now (area .entry)) (now (image .entry)) (now (out .entry)) r
             (now (input .exit)) (now (bytes .exit)) (now (room .exit)) (now (area .exit)) (now (image .exit)) (now (out .exit)) ⌝ }
     {
@@ -112,7 +112,7 @@ impl Run {
     // The lines go out first: a read may wait long, and who reads them should not wait with it. A failed read ends the session; what of a
     // line has come by then is no line.
     fn read(mut self, lines: Lines, input: &mut [u8; INPUT], out: &[u8; SIZE]) -> Run
-        ensures { λ r. ⌜ ReadsOn self «lines» (now (input .entry)) r (now (input .exit)) ⌝ }
+        ensures { λ r. ⌜ InputRead self «lines» (now (input .entry)) r (now (input .exit)) ⌝ }
     {
         let old = self.desk;
         let desk = old.flushed(out);

@@ -13,7 +13,7 @@ use sequences::part::front;
 use text::output::SIZE;
 ghost use mathlib.Core.Path.{_≡_};
 ghost use lib.ListN.{length};
-ghost use Rattle.desk.specs.Telling.{Told};
+ghost use Rattle.desk.specs.Telling.{DeskTold};
 ghost use Rattle.desk.specs.Obeying.{SentDone};
 ghost use Rattle.desk.specs.Effects.{replyName, silenceName, senderOpenDesk, senderOpenTexts, requestTexts, requestRoom, Decides};
 ghost use Rattle.desk.specs.Effects.{senderShowTexts};
@@ -59,7 +59,7 @@ impl Desk {
         image: &[u8],
         out: &mut [u8; SIZE],
     ) -> Desk
-        ensures { λ r. ⌜ Told (self .output) (senderOpenDesk self size (now (bytes .entry)) (length (now (image .entry))))
+        ensures { λ r. ⌜ DeskTold (self .output) (senderOpenDesk self size (now (bytes .entry)) (length (now (image .entry))))
             (senderOpenTexts self number size (now (bytes .entry)) (length (now (image .entry)))) (now (out .entry)) r (now (out .exit)) ⌝ }
     {
         let offer = offer::said(size, bytes, image.len());
@@ -81,7 +81,7 @@ impl Desk {
         kept: &mut [u8; MEMORY],
         out: &mut [u8; SIZE],
     ) -> Desk
-        ensures { λ r. ⌜ Told (self .output) self (requestTexts self number (now (image .entry)) (now (room .entry))) (now (out .entry)) r
+        ensures { λ r. ⌜ DeskTold (self .output) self (requestTexts self number (now (image .entry)) (now (room .entry))) (now (out .entry)) r
             (now (out .exit)) ⌝ }
         ensures { λ _. ⌜ now (room .exit) ≡ requestRoom self (now (image .entry)) (now (room .entry)) ⌝ }
     {
@@ -126,7 +126,7 @@ impl Desk {
     }
 
     fn show_sender(mut self, number: u64, out: &mut [u8; SIZE]) -> Desk
-        ensures { λ r. ⌜ Told (self .output) self (senderShowTexts self number) (now (out .entry)) r (now (out .exit)) ⌝ }
+        ensures { λ r. ⌜ DeskTold (self .output) self (senderShowTexts self number) (now (out .entry)) r (now (out .exit)) ⌝ }
     {
         let sender = self.sender;
         let begun = answers::begun(self.output, number, b" sender show", &mut *out);

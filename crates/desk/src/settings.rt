@@ -10,7 +10,7 @@ use phrases::table;
 use phrases::trouble;
 use text::output::SIZE;
 ghost use mathlib.Core.Path.{_≡_};
-ghost use Rattle.desk.specs.Telling.{Told};
+ghost use Rattle.desk.specs.Telling.{DeskTold};
 ghost use Rattle.desk.specs.Effects.{isPastHeld, setDesk, setTexts, senderSetDesk, senderSetTexts, badTexts};
 
 impl Desk {
@@ -21,7 +21,7 @@ impl Desk {
         bytes: &[u8; BYTES],
         out: &mut [u8; SIZE],
     ) -> Desk
-        ensures { λ r. ⌜ Told (self .output) (setDesk self phrase (now (bytes .entry))) (setTexts self number phrase (now (bytes .entry)))
+        ensures { λ r. ⌜ DeskTold (self .output) (setDesk self phrase (now (bytes .entry))) (setTexts self number phrase (now (bytes .entry)))
             (now (out .entry)) r (now (out .exit)) ⌝ }
     {
         if is_past_held(phrase) {
@@ -40,7 +40,7 @@ impl Desk {
         bytes: &[u8; BYTES],
         out: &mut [u8; SIZE],
     ) -> Desk
-        ensures { λ r. ⌜ Told (self .output) (senderSetDesk self phrase (now (bytes .entry)))
+        ensures { λ r. ⌜ DeskTold (self .output) (senderSetDesk self phrase (now (bytes .entry)))
             (senderSetTexts self number phrase (now (bytes .entry))) (now (out .entry)) r (now (out .exit)) ⌝ }
     {
         let before = self.sender;
@@ -51,7 +51,7 @@ impl Desk {
 
     // A line that is no command.
     pub(crate) fn bad(mut self, number: u64, phrase: Phrase, out: &mut [u8; SIZE]) -> Desk
-        ensures { λ r. ⌜ Told (self .output) self (badTexts number phrase) (now (out .entry)) r (now (out .exit)) ⌝ }
+        ensures { λ r. ⌜ DeskTold (self .output) self (badTexts number phrase) (now (out .entry)) r (now (out .exit)) ⌝ }
     {
         let begun = answers::begun(self.output, number, b" bad ", &mut *out);
         let told = trouble::tell(begun, phrase, &mut *out);

@@ -45,8 +45,8 @@ thenSent k f letters = told (k .texts) (sending (k .link) (k .script) (k .memory
 abbrev pub newLeg : Dialogue → List ℕ → List ℕ → Turn
 newLeg x image letters = carrying x (thenSent (cleared (x .link) (x .script) (x .memory) dropped) (requestSent (x .sender) image) letters)
 
--- "What the sender then does, by its decision": "none: nothing"; "go on, send again: it asks for its request and sends it"; "new leg: ..";
--- "done, given up: the turns end"
+-- "What the sender then does, by its decision": none: "nothing"; go on, send again: "it asks for its request and sends it"; new
+-- leg: "all frames under way are dropped, then it asks for its request (FA) and sends it"; done, given up: "the turns end"
 abbrev pub byDecision : Decision → Dialogue → List ℕ → List ℕ → Turn
 byDecision Nothing x image letters = staying x
 byDecision GoOn x image letters = requestTurn x image letters

@@ -1,51 +1,47 @@
 -- What FE and the end of its check answer, each by itself. Assumes nothing.
-use mathlib.Core.Path.{_≡_, refl, ap}
+use mathlib.Core.Path.{_≡_, refl}
 use mathlib.Core.Bool.{Bool, true, false, not, _||_}
-use mathlib.Core.List.{List}
 use Prim.Native.Nat.{ℕ}
 use native.Mathlib.Omega.{arith}
 use lib.Dec.{eqb}
-use lib.ListN.{getD}
-use Rattle.sequences.specs.Padding.{padded}
 use Rattle.sequences.proofs.Conditionals.{of-both}
-use Rattle.image.specs.Checks.{noCheck}
-use Rattle.commands.specs.Limits.{maxReply}
-use Rattle.commands.specs.States.{granted, incompleteFE, neverSentFE, refusedFE}
 use Rattle.replies.specs.Replies.{replyState}
-use Rattle.transfer.specs.declared.phase.Phase.the-variants.{Idle}
 use Rattle.transfer.specs.declared.state.Transfer.{Transfer}
-use Rattle.transfer.specs.declared.state.Step.{Step}
 use Rattle.transfer.specs.Phases.{receivingOrDone}
-use Rattle.transfer.specs.Identities.{noIdentity}
-use Rattle.transfer.specs.Transfers.{replaced, withCheck, otherChannel, replied}
-use Rattle.ending.specs.FE.{answerFE, endedFE}
+use Rattle.transfer.specs.Transfers.{otherChannel}
+use Rattle.ending.specs.FE.{reachesCrc, answerFE, endedFE}
+use Rattle.ending.specs.Results.{EndFailed, OtherState, NeverState02}
 
--- a failed end check: idle, nothing stored, no identity, no check, all else as it was
-pub end-failed : (t : Transfer) → endedFE t false ≡ replied (replaced (withCheck t noCheck) Idle noIdentity)
-    (replyState (t .leg .channel) refusedFE)
-unfolding endedFE
+pub end-failed : EndFailed
+unfolding endedFE replyState
 end-failed t = refl
 
--- replies with another state are other replies
-state-of : (channel m n : ℕ) → padded maxReply (replyState channel m) ≡ padded maxReply (replyState channel n) → m ≡ n
-unfolding replyState
-state-of channel m n e = ap (λ (d : List ℕ). getD d 1 0) e
+never-at-once : (t : Transfer) (channel : ℕ) → OtherState (answerFE t channel)
+unfolding answerFE replyState
+never-at-once t channel =
+    of-both OtherState (not (receivingOrDone (t .leg .phase)) || otherChannel t channel) _ _ (λ _ e. omega arith)
+    (of-both OtherState (not (eqb (t .progress .stored) (t .image .announced))) _ _ (λ _ e. omega arith)
+    (λ e _. let z : _≡_ {A = ℕ} 0 1 = cc in omega arith))
 
--- a reply with this channel and state
-abbrev HasState : ℕ → ℕ → Step → Type 0
-HasState channel n x = (x .replies ≡ true) × (x .reply ≡ padded maxReply (replyState channel n))
+never-at-end : (t : Transfer) (right : Bool) → OtherState (endedFE t right)
+unfolding endedFE replyState
+never-at-end t true _ e = omega arith
+never-at-end t false _ e = omega arith
 
--- "State 02 of the page is never sent": neither at once nor at the end of the check
-pub never-state-02 : (t : Transfer) (channel : ℕ) → HasState channel neverSentFE (answerFE t channel) → ⊥
+pub never-state-02 : NeverState02
+never-state-02 = record { at-once = never-at-once; at-end = never-at-end }
+
+-- an FE that does not get as far as the CRC leaves the transfer
+pub unreached-unmoved : (t : Transfer) (channel : ℕ) → reachesCrc t channel ≡ false → answerFE t channel .transfer ≡ t
 unfolding answerFE
-never-state-02 t channel =
-    let Other : Step → Type 0 = λ x. HasState channel neverSentFE x → ⊥ in
-    of-both Other (not (receivingOrDone (t .leg .phase)) || otherChannel t channel) _ _
-    (λ e. let z = state-of channel refusedFE neverSentFE (e .1) in omega arith)
-    (of-both Other (not (eqb (t .progress .stored) (t .image .announced))) _ _ (λ e. let z = state-of channel incompleteFE neverSentFE (e .1) in omega arith)
-    (λ e. let z : _≡_ {A = ℕ} 0 1 = cc in absurd (omega arith)))
-
-pub never-state-02-at-end : (t : Transfer) (right : Bool) → HasState (t .leg .channel) neverSentFE (endedFE t right) → ⊥
-unfolding endedFE
-never-state-02-at-end t true e = let z = state-of (t .leg .channel) granted neverSentFE (e .1) in omega arith
-never-state-02-at-end t false e = let z = state-of (t .leg .channel) refusedFE neverSentFE (e .1) in omega arith
+unreached-unmoved t channel e = go (receivingOrDone (t .leg .phase)) (otherChannel t channel) _ refl refl refl
+  where
+    go : (a b c : Bool) → receivingOrDone (t .leg .phase) ≡ a → otherChannel t channel ≡ b
+        → eqb (t .progress .stored) (t .image .announced) ≡ c → answerFE t channel .transfer ≡ t
+    go false b c ea eb ec = simp ea
+    go true true c ea eb ec = simp (ea, eb)
+    go true false false ea eb ec = simp (ea, eb, ec)
+    go true false true ea eb ec =
+        let z : reachesCrc t channel ≡ true = simp (ea, eb, ec) in
+        let y : _≡_ {A = ℕ} 0 1 = cc in
+        absurd (omega arith)

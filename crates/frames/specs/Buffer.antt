@@ -7,7 +7,7 @@ use Prim.Native.Nat.{ℕ, _≤_}
 use lib.Dec.{leb, eqb}
 use lib.ListN.{length, take, drop}
 use Rattle.sequences.specs.Bytes.{Bytes}
-use Rattle.fronts.specs.Frame.{maxData, frameSize, Frame, encode, lengthAt, frameAt}
+use Rattle.fronts.specs.Frame.{headerSize, maxData, frameSize, Frame, encode, lengthAt, frameAt}
 use Rattle.fronts.specs.Fronts.{frontOf, isWhole}
 
 -- "Whether a whole frame begins at the buffer's first byte is a question of its own, answered yes exactly then"
@@ -18,6 +18,11 @@ wholeAt s = isWhole (frontOf s)
 unfoldable pub dataAt : List ℕ → List ℕ
 unfolding wholeAt
 dataAt s = cond (wholeAt s) (frameAt s .payload) []
+
+-- where in the caller's bytes that part begins: behind the header; the empty one at the first byte
+unfoldable pub dataPlace : List ℕ → ℕ
+unfolding wholeAt
+dataPlace s = cond (wholeAt s) headerSize 0
 
 -- one whole frame and nothing else: it begins at the first byte and ends at the last
 unfoldable pub aloneAt : List ℕ → Bool

@@ -6,3 +6,4 @@ pub mod Buffer
 pub mod Series
 pub mod PlainRun
 pub mod Scans
+pub mod Examples

@@ -16,7 +16,7 @@ plain step answer s (f ∷ fs) =
     let next = plain step answer (step s f) fs in
     record { state = next .state; replies = answer s f ++ next .replies }
 
--- ys begins with xs: "the replies so far are the first of those that the plain run gives"
+-- ys begins with xs: the replies so far are the first of those that the plain run gives
 pub record Begins {R : Type 0} (xs ys : List R) : Type 0 where
   pub rest : List R
   pub joined : xs ++ rest ≡ ys

@@ -4,7 +4,8 @@ use fronts::front::Front;
 use fronts::front::front_of;
 use fronts::header;
 ghost use mathlib.Core.Path.{_≡_};
-ghost use Rattle.frames.specs.Buffer.{wholeAt, dataAt, aloneAt, versionAt, commandAt};
+ghost use Prim.Native.Nat.{_+_};
+ghost use Rattle.frames.specs.Buffer.{wholeAt, dataAt, dataPlace, aloneAt, versionAt, commandAt};
 
 // Whether a whole frame begins at the first byte of s.
 pub fn whole(s: &[u8]) -> bool
@@ -19,9 +20,10 @@ pub fn whole(s: &[u8]) -> bool
 }
 
 // The data of the frame at the first byte of s, as that part of s. Without a frame the part is empty, and so it is for a frame
-// without data: `whole` tells the two apart.
+// without data: `whole` tells the two apart. The second promise says which part: the same memory, from that place on.
 pub fn data(s: &[u8]) -> &[u8]
     ensures { λ r. ⌜ now r ≡ dataAt (now (s .entry)) ⌝ }
+    ensures { λ r. ⌜ (r .ptr .0 ≡ s .entry .ptr .0) × (r .ptr .1 ≡ dataPlace (now (s .entry)) + s .entry .ptr .1) ⌝ }
 {
     if whole(s) {
         let end = header::SIZE + header::length_at(s, &s[..0], 0);

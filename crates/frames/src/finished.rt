@@ -4,11 +4,10 @@ use fronts::MAX_DATA;
 use sequences::place;
 ghost use mathlib.Core.Path.{_≡_};
 ghost use Prim.Native.Nat.{_+_, _≤_};
-ghost use lib.ListN.{length, take};
-ghost use Rattle.frames.specs.Buffer.{Written};
+ghost use lib.ListN.{length};
 ghost use Rattle.fronts.specs.Frame.{maxData};
 ghost use Rattle.sequences.specs.Places.{writtenAt};
-ghost use Rattle.frames.specs.Finished.{frameOf, noData, extended};
+ghost use Rattle.frames.specs.Finished.{noData, extended, FinishedWritten};
 
 // The first `length` of `bytes` are its data; a frame that live reading finished has zeros after them.
 pub struct FinishedFrame {
@@ -53,9 +52,9 @@ impl FinishedFrame {
         }
     }
 
-    // Writes it to the front of room, as `writer::write` does.
+    // Writes it to the front of room, as `writer::write` does; 0, and nothing written, where it claims more data than a frame can have.
     pub fn write(self, room: &mut [u8]) -> usize
-        ensures { λ r. ⌜ Written (frameOf self) (now (room .entry)) r (now (room .exit)) ⌝ }
+        ensures { λ r. ⌜ FinishedWritten self (now (room .entry)) r (now (room .exit)) ⌝ }
     {
         let bytes = self.bytes;
         write_first(self.version, self.command, bytes, self.length, room)
@@ -64,11 +63,11 @@ impl FinishedFrame {
 
 // Writes the frame whose data are the first n bytes.
 fn write_first(version: u8, command: u8, all: [u8; MAX_DATA], n: usize, room: &mut [u8]) -> usize
-    ensures { λ r. ⌜ Written (record { version = version; command = command; payload = take n all }) (now (room .entry)) r
+    ensures { λ r. ⌜ FinishedWritten (record { version = version; command = command; length = n; bytes = all }) (now (room .entry)) r
         (now (room .exit)) ⌝ }
 {
     if MAX_DATA < n {
-        return writer::write(version, command, &all, room);
+        return 0;
     }
     writer::write(version, command, &all[..n], room)
 }

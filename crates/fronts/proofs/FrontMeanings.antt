@@ -9,10 +9,10 @@ use Rattle.fronts.specs.declared.front.Front.{Front}
 use Rattle.fronts.specs.declared.front.Front.the-variants.{Whole, Dead, Open}
 use Rattle.sequences.specs.Bytes.{Bytes}
 use Rattle.fronts.specs.Frame.{maxData, frameSize, WholeFrame, lengthAt, frameAt}
-use Rattle.fronts.specs.Fronts.{frontOf, Completable, FrontMeans}
+use Rattle.fronts.specs.Fronts.{frontOf, Completable, FrontsMean}
 use Rattle.sequences.proofs.Bytes.{bytes-append}
 use Rattle.fronts.proofs.Fronts.{dead-whole, whole-open, whole-passed}
-use Rattle.fronts.proofs.MoreBytes.{dead-more}
+use Rattle.fronts.proofs.MoreBytes.{front-more, dead-more}
 use Rattle.fronts.proofs.Encodings.{front-encoded, encoded-whole, payload-size}
 use Rattle.fronts.proofs.Completions.{open-completion}
 
@@ -57,6 +57,11 @@ means-open s p m = go (frontOf s) refl
     go Whole e = absurd (m .0 (whole-frame s p e))
     go Dead e = absurd (dead-never s e (m .1))
 
-pub front-means : (s : List ℕ) → Bytes s → FrontMeans s
+pub front-means : FrontsMean
 front-means s p =
-    record { whole = (whole-frame s p, frame-whole s); dead = (dead-never s, never-dead s p); undecided = (open-means s p, means-open s p) }
+    record {
+      whole = (whole-frame s p, frame-whole s);
+      dead = (dead-never s, never-dead s p);
+      undecided = (open-means s p, means-open s p);
+      decided = front-more s;
+    }

@@ -77,3 +77,7 @@ lengthAt s = number16 (getD s 4 0) (getD s 5 0)
 
 unfoldable pub frameAt : List ℕ → Frame
 frameAt s = record { version = getD s 2 0; command = getD s 3 0; payload = take (lengthAt s) (drop headerSize s) }
+
+-- The claim: "A frame has 7 + L bytes".
+abbrev pub EncodedSize : Type 0
+EncodedSize = (f : Frame) → length (encode f) ≡ frameSize (length (f .payload))

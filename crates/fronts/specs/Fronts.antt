@@ -1,4 +1,4 @@
--- 01, "Live reading": what stands at the front of some bytes. "A whole frame", "a front that can no longer become a frame" (Dead),
+-- 01, "Live reading": what stands at the front of some bytes: "a whole frame", "a front that can no longer become a frame" (Dead),
 -- or one that still may (Open). The tests are in the order of the bytes: a front is judged as soon as the bytes for a test are there.
 -- Assumes nothing.
 use mathlib.Core.Path.{_≡_}
@@ -45,11 +45,16 @@ pub record Completable (s : List ℕ) : Type 0 where
   pub bytes : Bytes tail
   pub whole : WholeFrame (s ++ tail)
 
--- What the three fronts of a byte sequence mean.
+-- What the three fronts of a byte sequence mean; bytes behind a decided one change nothing.
 pub record FrontMeans (s : List ℕ) : Type 0 where
   pub whole : (frontOf s ≡ Whole) ↔ WholeFrame s
   pub dead : (frontOf s ≡ Dead) ↔ (Completable s → ⊥)
   pub undecided : (frontOf s ≡ Open) ↔ ((WholeFrame s → ⊥) × Completable s)
+  pub decided : (behind : List ℕ) → (frontOf s ≡ Open → ⊥) → frontOf (s ++ behind) ≡ frontOf s
+
+-- The claim, of all bytes.
+abbrev pub FrontsMean : Type 0
+FrontsMean = (s : List ℕ) → Bytes s → FrontMeans s
 
 -- The front of v from `from` on, open at `to`, stays open until `more` bytes more are there.
 pub record Missing (v : List ℕ) (from to more : ℕ) : Type 0 where

@@ -13,7 +13,7 @@ use Rattle.sequences.proofs.Slices.{take-slice, drop-slice}
 use Rattle.image.specs.declared.check.Check.{Check}
 use Rattle.image.specs.declared.check.Verdict.the-variants.{Unfinished}
 use Rattle.image.specs.declared.check.Portion.{Portion}
-use Rattle.image.specs.Checks.{startedCheck, leftUnread, readOn, portionOf, hasCrc, willPass, saying, ChecksAlike}
+use Rattle.image.specs.Checks.{startedCheck, leftUnread, readOn, portionOf, hasCrc, willPass, saying, ChecksAlikeIn, ChecksAlike}
 
 -- two parts that meet
 slice-join : (f t u : ℕ) (l : List ℕ) → f ≤ t → t ≤ u → u ≤ length l → slice f t l ++ slice t u l ≡ slice f u l
@@ -60,8 +60,8 @@ module _ (announced crc : ℕ) (area : List ℕ) where
       let done : announced ≤ announced = omega arith in
       simp (le-ltb most (leftUnread c announced) h, all, le-ltb announced announced done)
 
-  pub checks-alike : ChecksAlike announced crc area
-  checks-alike =
+  checks-alike-in : ChecksAlikeIn announced crc area
+  checks-alike-in =
       record {
         starts = started-says;
         goes-on = goes-on;
@@ -70,3 +70,6 @@ module _ (announced crc : ℕ) (area : List ℕ) where
           ap (λ (p : Portion). p .verdict) (ends c most inside h),
         );
       }
+
+pub checks-alike : ChecksAlike
+checks-alike = checks-alike-in

@@ -13,7 +13,7 @@ use Rattle.sequences.proofs.Conditionals.{of-both}
 use Rattle.sequences.proofs.Places.{written-there, written-before}
 use Rattle.sequences.proofs.Sames.{same-equal, same-self}
 use Rattle.image.specs.declared.progress.Progress.{Progress}
-use Rattle.image.specs.Progresses.{firstStored, grownBy, storing, lastStored, isLast, Stores}
+use Rattle.image.specs.Progresses.{grownBy, storing, lastStored, isLast, StoresBytes, Stores}
 
 module _ (p : Progress) (bytes area : List ℕ) where
   pub storing-fits : p .stored + length bytes ≤ length area → storing p bytes area ≡ grownBy p (length bytes)
@@ -41,8 +41,8 @@ module _ (p : Progress) (bytes area : List ℕ) where
       ∙ ap (λ (n : ℕ). take (length bytes) (drop n (writtenAt area (p .stored) bytes))) place
       ∙ written-there area bytes (p .stored) h
 
-  pub stores : Stores p bytes area
-  stores =
+  stores-bytes : StoresBytes p bytes area
+  stores-bytes =
       record { counted = storing-fits; there = last-stored; before = written-before area bytes (p .stored) 0 (p .stored) (omega arith) }
 
   -- what holds of the bytes of the packet taken last
@@ -75,3 +75,6 @@ module _ (p : Progress) (bytes area : List ℕ) where
   pub none-last : p .last ≡ 0 → isLast p bytes area ≡ false
   unfolding isLast
   none-last e = ap (λ (b : Bool). not b && (eqb (length bytes) (p .last) && same bytes (lastStored p area))) (eq-eqb (p .last) 0 e)
+
+pub stores : Stores
+stores = stores-bytes

@@ -56,9 +56,9 @@ willPass c announced crc area = eqb (finish crc32 (update crc32 (c .register) (s
 abbrev pub saying : Bool → Verdict
 saying right = cond right Right Wrong
 
--- The claim: a check comes to the same however it is cut into portions. What it will say is what it says in one go once it has started,
+-- A check comes to the same however it is cut into portions. What it will say is what it says in one go once it has started,
 -- stays as it was through every portion that is too small for the rest, and is said by the one that is not.
-pub record ChecksAlike (announced crc : ℕ) (area : List ℕ) : Type 0 where
+pub record ChecksAlikeIn (announced crc : ℕ) (area : List ℕ) : Type 0 where
   pub starts : willPass startedCheck announced crc area ≡ hasCrc announced crc area
   pub goes-on : (c : Check) (most : ℕ) → announced ≤ length area → most < leftUnread c announced
       → (portionOf c most announced crc area ≡ record { count = most; verdict = Unfinished; check = readOn c most area })
@@ -66,3 +66,7 @@ pub record ChecksAlike (announced crc : ℕ) (area : List ℕ) : Type 0 where
   pub ends : (c : Check) (most : ℕ) → c .read < announced → leftUnread c announced ≤ most
       → (portionOf c most announced crc area .count ≡ leftUnread c announced) ×
       (portionOf c most announced crc area .verdict ≡ saying (willPass c announced crc area))
+
+-- The claim.
+abbrev pub ChecksAlike : Type 0
+ChecksAlike = (announced crc : ℕ) (area : List ℕ) → ChecksAlikeIn announced crc area

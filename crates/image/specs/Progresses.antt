@@ -35,9 +35,13 @@ lastStored p area = take (p .last) (drop (p .stored - p .last) area)
 unfoldable pub isLast : Progress → List ℕ → List ℕ → Bool
 isLast p bytes area = not (eqb (p .last) 0) && (eqb (length bytes) (p .last) && same bytes (lastStored p area))
 
--- The claim: what is counted stands in the area. Bytes that fit are the last stored ones afterwards, behind what was stored before; that
+-- What is counted stands in the area. Bytes that fit are the last stored ones afterwards, behind what was stored before; that
 -- nothing else changes is `WritesOnly`.
-pub record Stores (p : Progress) (bytes area : List ℕ) : Type 0 where
+pub record StoresBytes (p : Progress) (bytes area : List ℕ) : Type 0 where
   pub counted : p .stored + length bytes ≤ length area → storing p bytes area ≡ grownBy p (length bytes)
   pub there : p .stored + length bytes ≤ length area → lastStored (storing p bytes area) (writtenAt area (p .stored) bytes) ≡ bytes
   pub before : firstStored p (writtenAt area (p .stored) bytes) ≡ firstStored p area
+
+-- The claim.
+abbrev pub Stores : Type 0
+Stores = (p : Progress) (bytes area : List ℕ) → StoresBytes p bytes area

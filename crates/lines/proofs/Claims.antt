@@ -16,7 +16,8 @@ use Rattle.sequences.proofs.Slices.{drop-slice}
 use Rattle.lines.specs.declared.lines.Lines.{Lines}
 use Rattle.lines.specs.declared.lines.Next.{Next}
 use Rattle.lines.specs.declared.lines.Kind.the-variants.{Line, TooLong, Unfinished, None}
-use Rattle.lines.specs.Lines.{bufferSize, newlineByte, sum, lineIn, waitingIn, movedTo, withoutLine, lineTold, lineEnded, lastLine}
+use Rattle.lines.specs.Lines.{lineBuffer, newlineByte, wrappedSum, lineIn, waitingIn, movedTo}
+use Rattle.lines.specs.Lines.{withoutLine, lineTold, lineEnded, lastLine}
 use Rattle.lines.specs.Lines.{passedOver, moreWanted, nextOf, Told, LinesTold, RoomToRead, NoneLeft}
 use Rattle.lines.proofs.Newlines.{line-within, newline-there, no-newline-before}
 use Rattle.lines.proofs.Parts.{slice-no-longer, slice-front}
@@ -25,10 +26,10 @@ use Rattle.lines.proofs.Parts.{slice-no-longer, slice-front}
 
 -- the end of a line too long, and a line of n bytes: with what is told up to a place
 abbrev tooLongTo : Lines → ℕ → Next
-tooLongTo l to = withoutLine (movedTo l to (sum (l .number) 1) false) TooLong
+tooLongTo l to = withoutLine (movedTo l to (wrappedSum (l .number) 1) false) TooLong
 
 abbrev lineTo : Lines → ℕ → ℕ → Next
-lineTo l to n = record { kind = Line; from = l .at; length = n; lines = movedTo l to (sum (l .number) 1) false }
+lineTo l to n = record { kind = Line; from = l .at; length = n; lines = movedTo l to (wrappedSum (l .number) 1) false }
 
 module _ (P : Next → Type 0) (l : Lines) (n : ℕ) where
   told-cases : (to : ℕ) → P (tooLongTo l to) → P (lineTo l to n) → P (lineTold (movedTo l to (l .number) (l .«is_passing»)) (l .at) n)
@@ -44,17 +45,17 @@ module _ (P : Next → Type 0) (l : Lines) (n : ℕ) where
 
   next-cases : (waiting : ℕ)
       → (n < waiting → P (lineEnded l n))
-      → (waiting ≤ n → n < bufferSize → l .«is_over» ≡ true → P (lastLine l n))
-      → (waiting ≤ n → n < bufferSize → P (moreWanted l))
+      → (waiting ≤ n → n < lineBuffer → l .«is_over» ≡ true → P (lastLine l n))
+      → (waiting ≤ n → n < lineBuffer → P (moreWanted l))
       → P (passedOver l)
       → P (nextOf l n waiting)
   unfolding nextOf
   next-cases waiting ended last more over =
       of-each P (ltb n waiting) _ _ (λ e. ended (ltb-true n waiting e))
-      (λ e. of-each P (ltb n bufferSize) _ _
+      (λ e. of-each P (ltb n lineBuffer) _ _
       (λ f. of-each P (l .«is_over») _ _
-      (λ o. last (ltb-false n waiting e) (ltb-true n bufferSize f) o)
-      (λ _. more (ltb-false n waiting e) (ltb-true n bufferSize f)))
+      (λ o. last (ltb-false n waiting e) (ltb-true n lineBuffer f) o)
+      (λ _. more (ltb-false n waiting e) (ltb-true n lineBuffer f)))
       (λ _. over))
 
 -- two kinds are never equal: `cc` finds the premise
@@ -84,18 +85,18 @@ module _ (l : Lines) (input : List ℕ) where
   line-size = ap length line-cut ∙ length-take-le n waiting (line-within waiting)
 
   -- up to its newline
-  module _ (fits : length input ≤ bufferSize) (ended : n < length waiting) where
+  module _ (fits : length input ≤ lineBuffer) (ended : n < length waiting) where
     abbrev next : ℕ
-    next = sum (sum (l .at) n) 1
+    next = wrappedSum (wrappedSum (l .at) n) 1
 
-    behind : l .at + n < bufferSize
+    behind : l .at + n < lineBuffer
     behind = omega (arith, length-drop (l .at) (take (l .end) input), length-take (l .end) input)
 
     place : next ≡ l .at + (n + 1)
     place =
-        let first : sum (l .at) n ≡ l .at + n = mod-eq-of-lt (omega (arith, behind)) in
+        let first : wrappedSum (l .at) n ≡ l .at + n = mod-eq-of-lt (omega (arith, behind)) in
         let both : l .at + n + 1 < 2 ^ 64 = omega (arith, behind) in
-        ap (λ (k : ℕ). sum k 1) first ∙ mod-eq-of-lt both ∙ (let e : l .at + n + 1 ≡ l .at + (n + 1) = omega arith in e)
+        ap (λ (k : ℕ). wrappedSum k 1) first ∙ mod-eq-of-lt both ∙ (let e : l .at + n + 1 ≡ l .at + (n + 1) = omega arith in e)
 
     left : slice next (l .end) input ≡ drop (suc n) waiting
     left =
@@ -117,7 +118,7 @@ module _ (l : Lines) (input : List ℕ) where
         }
 
   -- up to the input's end
-  module _ (all : length waiting ≤ n) (short : n < bufferSize) (over : l .«is_over» ≡ true) where
+  module _ (all : length waiting ≤ n) (short : n < lineBuffer) (over : l .«is_over» ≡ true) where
     told-last : Told l input (lineTo l (l .end) n)
     told-last =
         let whole : waiting ≡ line = sym (line-cut ∙ take-all n waiting all) in
@@ -139,13 +140,13 @@ lines-told l input fits =
 pub room-to-read : RoomToRead
 room-to-read l input =
     next-cases P l (n l input) (length (waiting l input))
-    (λ _. told-cases P l (n l input) (sum (sum (l .at) (n l input)) 1) (λ e. never (cc)) (λ e. never (cc)))
+    (λ _. told-cases P l (n l input) (wrappedSum (wrappedSum (l .at) (n l input)) 1) (λ e. never (cc)) (λ e. never (cc)))
     (λ _ _ _. last-cases P l (n l input) (λ e. never (cc)) (λ e. never (cc)) (λ _ _ e. never (cc)))
     (λ all short. of-each P (l .«is_passing») (passedOver l) (withoutLine l Unfinished) (λ _. passed) (λ _ _. omega arith))
     passed
   where
     P : Next → Type 0
-    P r = r .kind ≡ Unfinished → length (waitingIn (r .lines) input) < bufferSize
+    P r = r .kind ≡ Unfinished → length (waitingIn (r .lines) input) < lineBuffer
 
     passed : P (passedOver l)
     passed _ = omega (arith, ap length (slice-empty (l .end) input))
@@ -153,7 +154,7 @@ room-to-read l input =
 pub none-left : NoneLeft
 none-left l input =
     next-cases P l (n l input) (length (waiting l input))
-    (λ _. told-cases P l (n l input) (sum (sum (l .at) (n l input)) 1) (λ e. never (cc)) (λ e. never (cc)))
+    (λ _. told-cases P l (n l input) (wrappedSum (wrappedSum (l .at) (n l input)) 1) (λ e. never (cc)) (λ e. never (cc)))
     (λ all _ over. last-cases P l (n l input) (λ e. never (cc)) (λ e. never (cc))
     (λ fresh z _. (over, fresh, drop-of-length-le (waiting l input) {i = 0} (omega arith))))
     (λ _ _. of-each P (l .«is_passing») (passedOver l) (withoutLine l Unfinished) (λ _ e. never (cc)) (λ _ e. never (cc)))

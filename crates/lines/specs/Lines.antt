@@ -15,15 +15,15 @@ use Rattle.lines.specs.declared.lines.Kind.{Kind}
 use Rattle.lines.specs.declared.lines.Kind.the-variants.{Line, TooLong, Unfinished, None}
 
 -- "It has at most 65,535 bytes": a longest line and its newline
-abbrev pub bufferSize : ℕ
-bufferSize = 65536
+abbrev pub lineBuffer : ℕ
+lineBuffer = 65536
 
 abbrev pub newlineByte : ℕ
 newlineByte = 10
 
 -- the program's places and counts have 64 bits
-abbrev pub sum : ℕ → ℕ → ℕ
-sum a b = (a + b) % 2 ^ 64
+abbrev pub wrappedSum : ℕ → ℕ → ℕ
+wrappedSum a b = (a + b) % 2 ^ 64
 
 -- nothing is read yet
 abbrev pub noLines : Lines
@@ -52,13 +52,13 @@ module _ (l : Lines) where
 -- "every line counted": one that began within a line too long is the end of that one
 abbrev pub lineTold : Lines → ℕ → ℕ → Next
 lineTold l from n =
-    let next = movedTo l (l .at) (sum (l .number) 1) false in
+    let next = movedTo l (l .at) (wrappedSum (l .number) 1) false in
     cond (l .«is_passing») (withoutLine next TooLong) (record { kind = Line; from = from; length = n; lines = next })
 
 module _ (l : Lines) where
   -- "A line ends with a newline": of n bytes, and the newline is passed
   abbrev pub lineEnded : ℕ → Next
-  lineEnded n = lineTold (movedTo l (sum (sum (l .at) n) 1) (l .number) (l .«is_passing»)) (l .at) n
+  lineEnded n = lineTold (movedTo l (wrappedSum (wrappedSum (l .at) n) 1) (l .number) (l .«is_passing»)) (l .at) n
 
   -- "the last one may do without": of the n bytes that are left; where there are none there is no line
   abbrev pub lastLine : ℕ → Next
@@ -78,7 +78,7 @@ module _ (l : Lines) where
   -- buffer without a newline is of a line too long
   unfoldable pub nextOf : ℕ → ℕ → Next
   nextOf n waiting =
-      cond (ltb n waiting) (lineEnded n) (cond (ltb n bufferSize) (cond (l .«is_over») (lastLine n) moreWanted) passedOver)
+      cond (ltb n waiting) (lineEnded n) (cond (ltb n lineBuffer) (cond (l .«is_over») (lastLine n) moreWanted) passedOver)
 
   abbrev pub nextLine : List ℕ → Next
   nextLine input = nextOf (lineIn (waitingIn l input)) (length (waitingIn l input))
@@ -88,7 +88,7 @@ module _ (l : Lines) where
 -- they stand at the front now
 pub record ToFront (waiting : List ℕ) (n : ℕ) (after : List ℕ) : Type 0 where
   pub counts : n ≡ length waiting
-  pub fits : n ≤ bufferSize
+  pub fits : n ≤ lineBuffer
   pub stands : take n after ≡ waiting
 
 -- a read with room for so many bytes; a failed one brings none
@@ -107,7 +107,7 @@ pub record ReadOn (l : Lines) (input : List ℕ) (r : Lines) (after : List ℕ) 
   pub starts : r .at ≡ 0
   pub keeps : take (length (waitingIn l input)) after ≡ waitingIn l input
   pub grows : length (waitingIn l input) ≤ r .end
-  pub within : r .end ≤ bufferSize
+  pub within : r .end ≤ lineBuffer
   pub ends : r .«is_over» ≡ eqb (r .end) (length (waitingIn l input))
   pub fails : r .failed ≡ true → r .«is_over» ≡ true
   pub counts : r .number ≡ l .number
@@ -127,16 +127,16 @@ pub record Told (l : Lines) (input : List ℕ) (r : Next) : Type 0 where
   pub one : (i : ℕ) → i < r .length → getD (lineOf r input) i 0 ≡ newlineByte → ⊥
   pub counts : length (lineOf r input) ≡ r .length
   -- "It has at most 65,535 bytes."
-  pub short : r .length < bufferSize
+  pub short : r .length < lineBuffer
 
 -- The claim, from every place and in every buffer.
 abbrev pub LinesTold : Type 0
-LinesTold = (l : Lines) (input : List ℕ) → length input ≤ bufferSize → nextLine l input .kind ≡ Line → Told l input (nextLine l input)
+LinesTold = (l : Lines) (input : List ℕ) → length input ≤ lineBuffer → nextLine l input .kind ≡ Line → Told l input (nextLine l input)
 
 -- The claim: more is asked for only where a read has room for it, so that one that brings nothing is at the input's end.
 abbrev pub RoomToRead : Type 0
 RoomToRead =
-    (l : Lines) (input : List ℕ) → nextLine l input .kind ≡ Unfinished → length (waitingIn (nextLine l input .lines) input) < bufferSize
+    (l : Lines) (input : List ℕ) → nextLine l input .kind ≡ Unfinished → length (waitingIn (nextLine l input .lines) input) < lineBuffer
 
 -- The claim: no line is left out at the end.
 abbrev pub NoneLeft : Type 0

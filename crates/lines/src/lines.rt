@@ -6,7 +6,7 @@ ghost use mathlib.Core.Path.{_≡_};
 ghost use Prim.Native.Nat.{_≤_};
 ghost use lib.ListN.{length};
 ghost use lib.Seq.{slice};
-ghost use Rattle.lines.specs.Lines.{sum, noLines, lineIn, nextLine, lineEnded, lastLine, moreWanted, passedOver, lineTold};
+ghost use Rattle.lines.specs.Lines.{wrappedSum, noLines, lineIn, nextLine, lineEnded, lastLine, moreWanted, passedOver, lineTold};
 ghost use Rattle.lines.specs.Lines.{withoutLine, ToFront, GotWithin, GotBehind, ReadOn};
 
 // The length of the input buffer: as `io::large_buffer` gives.
@@ -210,7 +210,7 @@ fn copy_to_front(at: usize, end: usize, from: &[u8; INPUT], to: &mut [u8; INPUT]
 }
 
 fn plus(a: usize, b: usize) -> usize
-    ensures { λ r. ⌜ r ≡ sum a b ⌝ }
+    ensures { λ r. ⌜ r ≡ wrappedSum a b ⌝ }
 {
     std::num::wrapping_add_usize(a, b)
 }

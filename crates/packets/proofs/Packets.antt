@@ -1,17 +1,20 @@
 -- What holds of a packet that is taken and of one that is repeated. Assumes nothing.
-use mathlib.Core.Path.{_≡_, refl, sym, _∙_}
+use mathlib.Core.Path.{_≡_, refl, sym, ap, ap₂, _∙_}
 use mathlib.Core.List.{List}
 use Prim.Native.Nat.{ℕ, _+_, _-_, _≤_, _<_}
 use native.Mathlib.Omega.{arith}
 use lib.ListN.{length}
 use mathlib.Core.Logic.{⊎-elim}
-use mathlib.Core.Bool.{Bool, true, false, not, _&&_, and-eq-true-iff}
+use mathlib.Core.Bool.{Bool, true, false, not, _||_, _&&_, and-eq-true-iff}
 use lib.Dec.{ltb, eqb}
 use borrow.Author.Tests.{lt-ltb, le-ltb, ltb-true, ltb-false, eqb-true, eqb-false, eq-eqb, ne-eqb, not-true, not-false}
 use Rattle.sequences.proofs.Orders.{lt-or-le}
 use Rattle.requests.specs.declared.request.RequestFD.{RequestFD}
+use Rattle.transfer.specs.declared.phase.Phase.{Phase}
+use Rattle.transfer.specs.declared.phase.Phase.the-variants.{Idle, Asked, Told, Receiving, Done}
 use Rattle.transfer.specs.declared.state.Transfer.{Transfer}
-use Rattle.packets.specs.FD.{notReceivingHere, notNext, wrongSize, wrongCrc, repeats, stateFD, takes}
+use Rattle.transfer.specs.Phases.{receiving}
+use Rattle.packets.specs.FD.{notReceivingHere, notNext, wrongSize, wrongCrc, repeats, stateFD, takes, Acceptable}
 use Rattle.sequences.proofs.Conditionals.{no-refusal, neither}
 use Rattle.image.proofs.Storing.{IsLast, is-last}
 use Rattle.commands.specs.Limits.{maxNext}
@@ -29,6 +32,16 @@ one-below number next some = go (eqb (number + 1) next) refl
     go : (b : Bool) → eqb (number + 1) next ≡ b → eqb number (next - 1) ≡ b
     go true e = let below = eqb-true (number + 1) next e in eq-eqb number (next - 1) (omega arith)
     go false e = let other = eqb-false (number + 1) next e in ne-eqb number (next - 1) (λ same. other (omega arith))
+
+positive : (n : ℕ) {m : ℕ} → (n ≡ 0 → ⊥) → m ≡ n → 0 < m
+positive n some e = omega (arith, e)
+
+is-receiving : (p : Phase) → receiving p ≡ true → p ≡ Receiving
+is-receiving Receiving e = refl
+is-receiving Idle e = let z : _≡_ {A = ℕ} 0 1 = cc in absurd (omega arith)
+is-receiving Asked e = let z : _≡_ {A = ℕ} 0 1 = cc in absurd (omega arith)
+is-receiving Told e = let z : _≡_ {A = ℕ} 0 1 = cc in absurd (omega arith)
+is-receiving Done e = let z : _≡_ {A = ℕ} 0 1 = cc in absurd (omega arith)
 
 module _ (t : Transfer) (r : RequestFD) (p area : List ℕ) where
   -- what holds of a repeated packet
@@ -102,3 +115,42 @@ module _ (t : Transfer) (r : RequestFD) (p area : List ℕ) where
       go false b ea eb = refl
       go true true ea eb = let again = repeated eb .number in ne-eqb (r .number) (t .leg .next) (λ e. omega arith)
       go true false ea eb = eq-eqb (r .number) (t .leg .next) (passed (eqb-true (stateFD t r p area) 0 ea) eb .number)
+
+  -- ---- exactly when a packet is taken
+
+  pub acceptable : takes t r p area ≡ true → Acceptable t r p
+  acceptable e =
+      let k = taken e in
+      let n = neither (not (receiving (t .leg .phase))) _ (k .here) in
+      let size = k .size in
+      let some = k .some in
+      record {
+        receiving = is-receiving (t .leg .phase) (not-false _ (n .0));
+        channel = eqb-true _ _ (not-false _ (n .1));
+        number = k .number;
+        within = k .within;
+        size = size;
+        some = positive (length p) some size;
+        agreed = omega (arith, k .agreed);
+        fits = omega (arith, k .fits);
+        right-crc = eqb-true _ _ (not-false _ (k .right-crc));
+      }
+
+  pub accepted-taken : Acceptable t r p → takes t r p area ≡ true
+  unfolding takes stateFD
+  accepted-taken a =
+      let here : notReceivingHere t r ≡ false =
+      ap₂ (λ (x y : Bool). not x || not y) (ap receiving (a .receiving)) (eq-eqb (r .channel) (t .leg .channel) (a .channel)) in
+      let new : repeats t r p area ≡ false = not-again (repeats t r p area) refl in
+      let next : notNext t r ≡ false =
+      ap₂ (λ (x y : Bool). not x || not y) (lt-ltb (t .leg .next) maxNext (a .within)) (eq-eqb (r .number) (t .leg .next) (a .number)) in
+      let sized : wrongSize t r (length p) ≡ false =
+      ap₂ (λ (x y : Bool). not x || y) (eq-eqb (r .size) (length p) (a .size))
+      (ap₂ _||_ (ne-eqb (r .size) 0 (λ none. omega (arith, a .some)))
+      (ap₂ _||_ (le-ltb (t .leg .agreed) (r .size) (a .agreed)) (le-ltb (t .image .announced) _ (a .fits)))) in
+      let crc : wrongCrc r p ≡ false = ap not (eq-eqb _ _ (a .right-crc)) in
+      simp (here, new, next, sized, crc)
+    where
+      not-again : (b : Bool) → repeats t r p area ≡ b → b ≡ false
+      not-again true e = let again = repeated e .number in let n = a .number in absurd (omega arith)
+      not-again false e = refl

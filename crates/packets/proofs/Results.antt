@@ -1,10 +1,11 @@
 -- What the answers leave, each by itself. Assumes nothing.
-use mathlib.Core.Path.{_≡_, ap, _∙_}
-use mathlib.Core.Bool.{Bool, true, false, not, _||_, _&&_}
-use mathlib.Core.List.{List, _++_}
-use Prim.Native.Nat.{ℕ, _+_, _≤_, _<_}
+use mathlib.Core.Path.{_≡_, refl, ap, _∙_}
+use mathlib.Core.Bool.{Bool, true, false, not, _&&_}
+use mathlib.Core.List.{List}
+use Prim.Native.Nat.{ℕ, _+_, _≤_}
 use native.Mathlib.Omega.{arith}
 use borrow.Author.Tests.{ne-eqb}
+use lib.Dec.{eqb}
 use lib.ListN.{length}
 use Rattle.requests.specs.declared.request.RequestFD.{RequestFD}
 use Rattle.replies.specs.Replies.{replyState}
@@ -15,8 +16,14 @@ use Rattle.sequences.proofs.Places.{written-fits}
 use Rattle.image.specs.declared.progress.Progress.{Progress}
 use Rattle.image.proofs.Storing.{storing-fits}
 use Rattle.commands.specs.Limits.{maxNext}
-use Rattle.packets.specs.FD.{repeats, stateFD, takes, afterPacket, areaWith, effectFD, answerFD, areaFD, PacketStored, StoresPackets}
-use Rattle.packets.proofs.Packets.{taken, taken-state}
+use Rattle.packets.specs.FD.{repeats, stateFD, takes, numberedOn, afterPacket, areaWith}
+use Rattle.packets.specs.FD.{effectFD, answerFD, areaFD, PacketStored, StoresPackets}
+use Rattle.packets.specs.FD.{PacketUntaken, UntakenPackets, TakesExactly}
+use Rattle.packets.proofs.Packets.{taken, taken-state, acceptable, accepted-taken}
+
+and-false : (b : Bool) → (b && false) ≡ false
+and-false true = refl
+and-false false = refl
 
 module _ (t : Transfer) (r : RequestFD) (p area : List ℕ) where
   -- what a packet does, by whether it is taken
@@ -44,27 +51,40 @@ module _ (t : Transfer) (r : RequestFD) (p area : List ℕ) where
   pub stores-packet : t .image .announced ≤ length area → takes t r p area ≡ true → PacketStored t r p area
   stores-packet inside e =
       let there : t .progress .stored + length p ≤ length area = omega (arith, taken t r p area e .fits) in
-      let progress = ap (λ (x : Step). x .transfer .progress) (packet-counted e) ∙ storing-fits (t .progress) p area there in
       record {
         written = packet-stored e ∙ written-fits area p (t .progress .stored) there;
-        stored = ap (λ (q : Progress). q .stored) progress;
-        last = ap (λ (q : Progress). q .last) progress;
-        next = ap (λ (x : Step). x .transfer .leg .next) (packet-counted e);
+        counted = packet-counted e
+            ∙ ap (λ (q : Progress). replied (record { leg = numberedOn (t .leg); progress = q; image = t .image; check = t .check })
+            (replyState (r .channel) 0)) (storing-fits (t .progress) p area there);
       }
 
   -- any other packet, repeated or refused, changes nothing: neither the area nor the transfer
   pub packet-not-taken : takes t r p area ≡ false → (areaFD t r p area ≡ area) × (answerFD t r p area ≡ replied t reply)
   packet-not-taken e = (ap (λ (x : Effect Step). x .area) (effect-not-taken e), ap (λ (x : Effect Step). x .gives) (effect-not-taken e))
 
-  -- so does every packet with another state than 00
-  pub packet-refused : (stateFD t r p area ≡ 0 → ⊥) → (areaFD t r p area ≡ area) ×
-      (answerFD t r p area ≡ replied t (replyState (r .channel) (stateFD t r p area)))
+  pub packet-refused : (stateFD t r p area ≡ 0 → ⊥) → takes t r p area ≡ false
   unfolding takes
-  packet-refused n = packet-not-taken (ap (λ (b : Bool). b && not (repeats t r p area)) (ne-eqb (stateFD t r p area) 0 n))
+  packet-refused n = ap (λ (b : Bool). b && not (repeats t r p area)) (ne-eqb (stateFD t r p area) 0 n)
 
-  -- after number 65,535 no packet is next
-  pub none-next : t .leg .next ≡ maxNext → takes t r p area ≡ true → ⊥
-  none-next last e = let n = taken t r p area e .within in omega arith
+  packet-repeated : repeats t r p area ≡ true → takes t r p area ≡ false
+  unfolding takes
+  packet-repeated e = ap (λ (b : Bool). eqb (stateFD t r p area) 0 && not b) e ∙ and-false (eqb (stateFD t r p area) 0)
+
+  none-next : t .leg .next ≡ maxNext → takes t r p area ≡ false
+  none-next last = go (takes t r p area) refl
+    where
+      go : (b : Bool) → takes t r p area ≡ b → b ≡ false
+      go true e = let n = taken t r p area e .within in absurd (omega arith)
+      go false e = refl
+
+  packet-untaken : PacketUntaken t r p area
+  packet-untaken = record { not-taken = effect-not-taken; refused = packet-refused; repeated = packet-repeated; none-next = none-next }
+
+pub untaken-packets : UntakenPackets
+untaken-packets = packet-untaken
 
 pub stores-packets : StoresPackets
 stores-packets = stores-packet
+
+pub takes-exactly : TakesExactly
+takes-exactly t r p area = (acceptable t r p area, accepted-taken t r p area)

@@ -4,9 +4,10 @@
 -- by 1." Between 04 and 01 stands document 02's test for a packet that is sent again because its reply was lost (K2). p is the packet's
 -- L - 7 bytes. Assumes nothing.
 use mathlib.Core.Path.{_≡_}
-use mathlib.Core.Bool.{Bool, true, cond, not, _||_, _&&_}
+use mathlib.Core.Logic.{_↔_}
+use mathlib.Core.Bool.{Bool, true, false, cond, not, _||_, _&&_}
 use mathlib.Core.List.{List, _++_}
-use Prim.Native.Nat.{ℕ, _+_, _≤_}
+use Prim.Native.Nat.{ℕ, _+_, _≤_, _<_}
 use lib.Dec.{ltb, eqb}
 use lib.ListN.{length, take, drop}
 use Rattle.sequences.specs.Places.{writtenAt}
@@ -16,6 +17,7 @@ use Rattle.commands.specs.Limits.{maxNext}
 use Rattle.requests.specs.declared.request.RequestFD.{RequestFD}
 use Rattle.commands.specs.States.{granted, otherNumberFD, badSizeFD, badCrcFD, notReceivingFD}
 use Rattle.replies.specs.Replies.{replyState}
+use Rattle.transfer.specs.declared.phase.Phase.the-variants.{Receiving}
 use Rattle.transfer.specs.declared.state.Leg.{Leg}
 use Rattle.transfer.specs.declared.state.Transfer.{Transfer}
 use Rattle.transfer.specs.declared.state.Step.{Step}
@@ -81,14 +83,44 @@ answerFD t r p area = effectFD t r p area .gives
 abbrev pub areaFD : Transfer → RequestFD → List ℕ → List ℕ → List ℕ
 areaFD t r p area = effectFD t r p area .area
 
+-- what 01's sentence asks of a packet, one condition after the other
+pub record Acceptable (t : Transfer) (r : RequestFD) (p : List ℕ) : Type 0 where
+  pub receiving : t .leg .phase ≡ Receiving
+  pub channel : r .channel ≡ t .leg .channel
+  pub number : r .number ≡ t .leg .next
+  pub within : t .leg .next < maxNext
+  pub size : r .size ≡ length p
+  pub some : 0 < r .size
+  pub agreed : r .size ≤ t .leg .agreed
+  pub fits : t .progress .stored + r .size ≤ t .image .announced
+  pub right-crc : checksum crc16-modbus p ≡ r .crc
+
+-- The claim: exactly such a packet is taken, whatever stands in the area.
+abbrev pub TakesExactly : Type 0
+TakesExactly = (t : Transfer) (r : RequestFD) (p area : List ℕ) → (takes t r p area ≡ true) ↔ Acceptable t r p
+
 -- The claim: a packet that is taken, in an area that has room for the announced image, is written "from place stored on, into that part
--- of the area only; stored grows by n, next number by 1".
+-- of the area only; stored grows by n, next number by 1"; it is answered 00, and nothing else changes.
 pub record PacketStored (t : Transfer) (r : RequestFD) (p area : List ℕ) : Type 0 where
   pub written : areaFD t r p area ≡ take (t .progress .stored) area ++ (p ++ drop (t .progress .stored + length p) area)
-  pub stored : answerFD t r p area .transfer .progress .stored ≡ t .progress .stored + length p
-  pub last : answerFD t r p area .transfer .progress .last ≡ length p
-  pub next : answerFD t r p area .transfer .leg .next ≡ t .leg .next + 1
+  pub counted : answerFD t r p area ≡ replied (record {
+    leg = record { phase = t .leg .phase; channel = t .leg .channel; agreed = t .leg .agreed; next = t .leg .next + 1 };
+    progress = record { stored = t .progress .stored + length p; last = length p };
+    image = t .image;
+    check = t .check;
+  }) (replyState (r .channel) granted)
 
 abbrev pub StoresPackets : Type 0
 StoresPackets =
     (t : Transfer) (r : RequestFD) (p area : List ℕ) → t .image .announced ≤ length area → takes t r p area ≡ true → PacketStored t r p area
+
+-- The claim: "None of these changes anything", nor does the repeated packet; the reply has the state. "After number 65,535 no packet is
+-- next".
+pub record PacketUntaken (t : Transfer) (r : RequestFD) (p area : List ℕ) : Type 0 where
+  pub not-taken : takes t r p area ≡ false → effectFD t r p area ≡ unwritten (replied t (replyState (r .channel) (stateFD t r p area))) area
+  pub refused : (stateFD t r p area ≡ granted → ⊥) → takes t r p area ≡ false
+  pub repeated : repeats t r p area ≡ true → takes t r p area ≡ false
+  pub none-next : t .leg .next ≡ maxNext → takes t r p area ≡ false
+
+abbrev pub UntakenPackets : Type 0
+UntakenPackets = (t : Transfer) (r : RequestFD) (p area : List ℕ) → PacketUntaken t r p area

@@ -1,10 +1,10 @@
--- Document 02, K2, "A lost reply must not cost the whole leg": an accepted packet that comes again is answered 00 and changes nothing,
--- whatever was lost in between, and a packet that differs from it in a byte, the next one aside, never is. A lost frame does not come,
--- and whether a reply is heard is no part of a transfer: so all that can make a difference is what did come in between. That may be any
--- packets but the next, in any number. Assumes nothing.
+-- Document 02, K2, "A lost reply must not cost the whole leg", of one transfer: an accepted packet that comes again is answered 00 and
+-- changes nothing, and of all packets but the next it alone is: number, size, CRC-16 and bytes as they were. What may come in between is
+-- the session's claim. Assumes nothing.
 use mathlib.Core.Path.{_≡_}
+use mathlib.Core.Logic.{_↔_}
 use mathlib.Core.Bool.{true}
-use mathlib.Core.List.{List, [], _∷_}
+use mathlib.Core.List.{List}
 use Prim.Native.Nat.{ℕ, _+_, _≤_}
 use lib.ListN.{length}
 use Rattle.commands.specs.States.{granted}
@@ -34,30 +34,16 @@ answerToPacket x k = answerFD (x .transfer) (k .request) (k .bytes) (x .area)
 abbrev pub thenPacket : TransferAndArea → Packet → TransferAndArea
 thenPacket x k = record { transfer = answerToPacket x k .transfer; area = areaFD (x .transfer) (k .request) (k .bytes) (x .area) }
 
-abbrev pub thenPackets : TransferAndArea → List Packet → TransferAndArea
-thenPackets x [] = x
-thenPackets x (k ∷ ks) = thenPackets (thenPacket x k) ks
-
--- none of the packets has this number
-abbrev pub NoneOf : ℕ → List Packet → Type 0
-NoneOf number [] = Unit
-NoneOf number (k ∷ ks) = (k .request .number ≡ number → ⊥) × NoneOf number ks
-
--- what holds once packet k was accepted at x and the packets ks came after it
-pub record Repetition (x : TransferAndArea) (k : Packet) (ks : List Packet) : Type 0 where
-  -- all is as k left it
-  pub unmoved : thenPackets (thenPacket x k) ks ≡ thenPacket x k
+-- what holds once packet k was accepted at x
+pub record Repetition (x : TransferAndArea) (k : Packet) : Type 0 where
   -- k again is answered 00
-  pub answered-00 : answerToPacket (thenPackets (thenPacket x k) ks) k ≡ replied (thenPacket x k .transfer)
-      (replyState (k .request .channel) granted)
-  -- and changes nothing
-  pub unchanged : thenPacket (thenPackets (thenPacket x k) ks) k ≡ thenPacket x k
-  -- no other bytes are answered 00, the next packet's aside
-  pub other-bytes : (q : Packet) → (q .request .number ≡ k .request .number + 1 → ⊥) → (q .bytes ≡ k .bytes → ⊥)
-      → stateTo (thenPackets (thenPacket x k) ks) q ≡ granted → ⊥
+  pub answered-00 : answerToPacket (thenPacket x k) k ≡ replied (thenPacket x k .transfer) (replyState (k .request .channel) granted)
+  -- and changes nothing, no more than any packet but the next
+  pub unchanged : (q : Packet) → (q .request .number ≡ k .request .number + 1 → ⊥) → thenPacket (thenPacket x k) q ≡ thenPacket x k
+  -- of the packets with another number than the next, k alone is answered 00
+  pub itself-alone : (q : Packet) → (q .request .number ≡ k .request .number + 1 → ⊥) → (stateTo (thenPacket x k) q ≡ granted) ↔ (q ≡ k)
 
 abbrev pub RepeatedPacket : Type 0
 RepeatedPacket =
-    (x : TransferAndArea) (k : Packet) (ks : List Packet) → x .transfer .image .announced ≤ length (x .area)
-    → takes (x .transfer) (k .request) (k .bytes) (x .area) ≡ true
-    → NoneOf (k .request .number + 1) ks → Repetition x k ks
+    (x : TransferAndArea) (k : Packet) → x .transfer .image .announced ≤ length (x .area)
+    → takes (x .transfer) (k .request) (k .bytes) (x .area) ≡ true → Repetition x k

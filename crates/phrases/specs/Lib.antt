@@ -7,3 +7,4 @@ pub mod Pairs
 pub mod Phrases
 pub mod Messages
 pub mod Places
+pub mod Examples

@@ -1,4 +1,4 @@
--- docs/CONSOLE.md, "Lines": "Any other line is a command: its name, exactly as in the table, from the line's first byte on". Assumes
+-- docs/CONSOLE.md, "Lines": "Any other line is to be a command: its name, exactly as in the table, from the line's first byte on". Assumes
 -- nothing.
 use mathlib.Core.Bool.{Bool, true, _&&_}
 use mathlib.Core.List.{List, [], _∷_}
@@ -11,7 +11,7 @@ use Rattle.phrases.specs.declared.table.Row.{Row}
 use Rattle.phrases.specs.Spaces.{spaceByte}
 use Rattle.phrases.specs.Table.{rowCount, commandRow}
 
--- "behind a name comes a space or the line's end"
+-- "Behind a name comes a space or the line's end"
 abbrev pub nameEnds : List ℕ → Bool
 nameEnds [] = true
 nameEnds (b ∷ s) = eqb b spaceByte

@@ -18,7 +18,7 @@ unfoldable pub valueBehind : ℕ → List ℕ → ℕ
 valueBehind n [] = n
 valueBehind n (b ∷ s) = valueBehind (10 * n + digitOf b) s
 
--- "1 to 20 digits"
+-- "all the digits that stand there, 1 to 20 of them"
 abbrev pub mostDigits : ℕ
 mostDigits = 20
 

@@ -22,8 +22,8 @@ writeAreaAt = 4
 abbrev pub writeImageAt : ℕ
 writeImageAt = 5
 
-abbrev pub boardAt : ℕ
-boardAt = 6
+abbrev pub boardCommandAt : ℕ
+boardCommandAt = 6
 
 abbrev pub openAt : ℕ
 openAt = 7
@@ -186,7 +186,7 @@ pub record PlacesNamed : Type 0 where
   pub at-write-room : commandPlace (ascii "write room") ≡ writeRoomAt
   pub at-write-area : commandPlace (ascii "write area") ≡ writeAreaAt
   pub at-write-image : commandPlace (ascii "write image") ≡ writeImageAt
-  pub at-board : commandPlace (ascii "board") ≡ boardAt
+  pub at-board : commandPlace (ascii "board") ≡ boardCommandAt
   pub at-open : commandPlace (ascii "open") ≡ openAt
   pub at-feed : commandPlace (ascii "feed") ≡ feedAt
   pub at-quiet : commandPlace (ascii "quiet") ≡ quietAt

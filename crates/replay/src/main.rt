@@ -15,6 +15,8 @@ use capture::stage::Stage;
 use libc::STDERR_FILENO;
 use text::output::SIZE;
 ghost use mathlib.Core.Path.{_≡_};
+ghost use Rattle.controller.specs.Bench.{fresh};
+ghost use Rattle.capture.specs.Runs.{startRun, Replayed};
 ghost use Rattle.capture.specs.Stages.{readFailed};
 
 fn main() {
@@ -27,7 +29,11 @@ fn main() {
 
 // Turns until the run is over. A proved loop has to end, and nothing says that the input does: the turns are counted down from a
 // number that no run uses up.
-fn replay(input: &mut [u8; INPUT], output: &mut [u8; SIZE], area: &mut [u8; AREA]) -> Run {
+fn replay(input: &mut [u8; INPUT], output: &mut [u8; SIZE], area: &mut [u8; AREA]) -> Run
+    ensures { λ r. ⌜ Replayed
+        (record { run = startRun fresh; input = now (input .entry); output = now (output .entry); area = now (area .entry) })
+        (record { run = r; input = now (input .exit); output = now (output .exit); area = now (area .exit) }) ⌝ }
+{
     let mut run = Run::start(bench::open());
     let mut turns = u64::MAX;
     while turns > 0 {

@@ -16,6 +16,7 @@ use Rattle.commands.specs.declared.table.Row.{Row}
 use Rattle.commands.specs.Table.{placeInTable, rowAt}
 use Rattle.commands.specs.Limits.{maxReply}
 use Rattle.replies.specs.Replies.{replyFrame, hasReply, replySize, replyRoom}
+use Rattle.replies.specs.ReplyFrames.{EveryReplyReadsBack}
 use Rattle.commands.proofs.Rows.{reply-short}
 
 -- the frame that a row makes of a command and a reply's data
@@ -90,5 +91,15 @@ module _ (command : ℕ) (d room : List ℕ) (e : hasReply command ≡ true) whe
     pub reply-whole : wholeAt (replyRoom command d room) ≡ true
     reply-whole = ap wholeAt replied-room ∙ whole-written (replyFrame command d) room reply-writable
 
-    pub reply-reads-back : frameAt (replyRoom command d room) ≡ replyFrame command d
-    reply-reads-back = ap frameAt replied-room ∙ frame-written (replyFrame command d) room reply-writable
+    frame-back : frameAt (replyRoom command d room) ≡ replyFrame command d
+    frame-back = ap frameAt replied-room ∙ frame-written (replyFrame command d) room reply-writable
+
+pub reply-reads-back : EveryReplyReadsBack
+reply-reads-back command d room e wide =
+    record {
+      size = reply-size command d room e wide;
+      stays = reply-room command d room e wide;
+      front = reply-front command d room e wide;
+      whole = reply-whole command d room e wide;
+      reads-back = frame-back command d room e wide;
+    }

@@ -17,21 +17,22 @@ use Rattle.commands.specs.Limits.{maxReply}
 use Rattle.replies.specs.Replies.{replyFA, replyFB, replyFC, replyState, replyFrame}
 use Rattle.replies.specs.ReplyFields.{isReply, fieldsFA, fieldsFB, fieldsFC, fieldsState}
 use Rattle.replies.specs.RoundTrips.{replyBytes, RepliesReadBack}
-use Rattle.replies.proofs.ReplyFrames.{frame, reply-frames}
+use Rattle.replies.specs.ReplyFrames.{frameWith}
+use Rattle.replies.proofs.ReplyFrames.{reply-frames}
 
-module _ (command version : ℕ) (d : List ℕ) (is : replyFrame command (padded maxReply d) ≡ frame version command d)
+module _ (command version : ℕ) (d : List ℕ) (is : replyFrame command (padded maxReply d) ≡ frameWith version command d)
     (small : length d ≤ maxData) where
-  bytes-are : replyBytes command d ≡ encode (frame version command d)
+  bytes-are : replyBytes command d ≡ encode (frameWith version command d)
   bytes-are = ap encode is
 
   reply-data : dataAt (replyBytes command d) ≡ d
-  reply-data = ap dataAt bytes-are ∙ data-encoded (frame version command d) small
+  reply-data = ap dataAt bytes-are ∙ data-encoded (frameWith version command d) small
 
   reply-is : rowAt (placeInTable command) .«reply_version» ≡ version → rowAt (placeInTable command) .«reply_length» ≡ length d
       → isReply command (replyBytes command d) ≡ true
   unfolding isReply
   reply-is v n =
-      let f = frame version command d in
+      let f = frameWith version command d in
       let alone = ap aloneAt bytes-are ∙ alone-encoded f small in
       let own = ap commandAt bytes-are ∙ command-encoded f small in
       let versioned = ap versionAt bytes-are ∙ version-encoded f small in

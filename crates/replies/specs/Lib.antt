@@ -2,3 +2,4 @@
 pub mod Replies
 pub mod ReplyFields
 pub mod RoundTrips
+pub mod ReplyFrames

@@ -41,3 +41,7 @@ requestFD d = record { channel = channelOf d; number = number16At 1 d; size = nu
 -- FD's bytes where the frame has L data bytes
 unfoldable pub packetOf : ℕ → List ℕ → List ℕ
 packetOf L d = cond (ltb L 7 || ltb maxData L) [] (fieldAt 7 (L - 7) d)
+
+-- where in the frame's data they begin; the empty part at its first byte
+unfoldable pub packetPlace : ℕ → ℕ
+packetPlace L = cond (ltb L 7 || ltb maxData L) 0 7

@@ -4,8 +4,9 @@ use sequences::number::number16;
 use sequences::number::number32;
 use sequences::place;
 ghost use mathlib.Core.Path.{_≡_};
+ghost use Prim.Native.Nat.{_+_};
 ghost use Rattle.sequences.specs.Fields.{fieldAt};
-ghost use Rattle.requests.specs.Requests.{channelOf, requestFA, requestFB, requestFC, requestFD, packetOf};
+ghost use Rattle.requests.specs.Requests.{channelOf, requestFA, requestFB, requestFC, requestFD, packetOf, packetPlace};
 
 // FA: may an image be sent, in packets of at most `len1` bytes?
 pub struct RequestFA {
@@ -102,9 +103,10 @@ pub fn fd(d: &[u8; MAX_DATA]) -> RequestFD
     }
 }
 
-// The packet's bytes in an FD of so much data; none where that is too little for an FD or too much for a frame.
+// The packet's bytes in an FD of so much data, as that part of it; none where that is too little for an FD or too much for a frame.
 pub fn packet(d: &[u8; MAX_DATA], length: usize) -> &[u8]
     ensures { λ r. ⌜ now r ≡ packetOf length (now (d .entry)) ⌝ }
+    ensures { λ r. ⌜ (r .ptr .0 ≡ d .entry .ptr .0) × (r .ptr .1 ≡ packetPlace length + d .entry .ptr .1) ⌝ }
 {
     let all: &[u8] = d;
     if length < PACKET {

@@ -12,10 +12,10 @@ use Rattle.sender.specs.Opening.{openedSender}
 use Rattle.sender.specs.Kept.{SenderKeeps}
 use Rattle.sender.proofs.RequestReads.{number-fits}
 use Rattle.sender.proofs.Kept.{reply-keeps, silence-keeps}
-use Rattle.sender.proofs.Endings.{over-replied, over-silent, done-earned, done-silent}
+use Rattle.sender.proofs.Endings.{over-replied, over-silent, done-by-replied, done-after-replied, done-by-silent, done-after-silent}
 
 module _ (o : Offer) where
-  pub fresh-lawful : badOffer o ≡ false → breaksRules (freshSender o) ≡ false
+  fresh-lawful : badOffer o ≡ false → breaksRules (freshSender o) ≡ false
   unfolding breaksRules
   fresh-lawful e = ap (λ (b : Bool). b || false) e
 
@@ -43,7 +43,8 @@ sender-keeps =
       number = number-fits;
       over-reply = over-replied;
       over-silence = over-silent;
-      done-reply = λ s image b. done-earned s image b .0;
-      done-decision = λ s image b. done-earned s image b .1;
-      done-silence = done-silent;
+      done-by-reply = done-by-replied;
+      done-by-silence = done-by-silent;
+      done-after-reply = done-after-replied;
+      done-after-silence = done-after-silent;
     }

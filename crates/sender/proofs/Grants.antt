@@ -1,11 +1,10 @@
 -- What a granting reply comes to, request by request. Assumes nothing.
 use mathlib.Core.Path.{_≡_, refl, ap, _∙_}
-use mathlib.Core.Bool.{true, _&&_}
+use mathlib.Core.Bool.{true}
 use mathlib.Core.List.{List}
-use Prim.Native.Nat.{ℕ, _+_, _≤_, _<_}
-use borrow.Author.Tests.{eq-eqb, le-ltb}
-use lib.ListN.{length, take}
-use Rattle.crc.specs.Crc.{checksum, crc32}
+use Prim.Native.Nat.{ℕ, _+_, _<_}
+use borrow.Author.Tests.{eq-eqb}
+use lib.ListN.{length}
 use Rattle.frames.specs.Buffer.{dataAt}
 use Rattle.commands.specs.States.{granted}
 use Rattle.replies.specs.declared.reply_fields.ReplyFA.{ReplyFA}
@@ -33,7 +32,7 @@ module _ (s : Sender) (image : List ℕ) (ok : senderRefusal s (length image) �
   channel = s .offer .channel
 
   -- what the phase makes of the reply's data
-  abbrev InPhase : Phase → List ℕ → Decided
+  abbrev pub InPhase : Phase → List ℕ → Decided
   InPhase p d =
       byPhase p
       (judgedFA s (fieldsFA d))
@@ -45,7 +44,7 @@ module _ (s : Sender) (image : List ℕ) (ok : senderRefusal s (length image) �
       (nothingDecided s wrongReply)
 
   -- the reply to the request, on the channel, is judged
-  in-phase : (b : List ℕ) (p : Phase) → s .position .phase ≡ p → isReply (commandOf p) b ≡ true → replyChannel (dataAt b) ≡ channel
+  pub in-phase : (b : List ℕ) (p : Phase) → s .position .phase ≡ p → isReply (commandOf p) b ≡ true → replyChannel (dataAt b) ≡ channel
       → afterReply s image b ≡ InPhase p (dataAt b)
   unfolding afterReply judgedIn ownReply
   in-phase b p is own same = simp (ok, is, own, eq-eqb (replyChannel (dataAt b)) channel same)
@@ -58,18 +57,15 @@ module _ (s : Sender) (image : List ℕ) (ok : senderRefusal s (length image) �
       let r = replies-read-back .fa channel granted soft in
       in-phase b Asking is (replies-read-back .fa-reply channel granted soft) (ap (λ (x : ReplyFA). x .channel) r) ∙ ap (judgedFA s) r
 
-  pub granted-fb : (stored : ℕ) → s .position .phase ≡ Telling → stored ≤ length image → stored < max32
-      → checksum crc32 (take stored image) < max32
-      → afterReply s image (replyBytes 0xFB (replyFB channel granted stored (checksum crc32 (take stored image))))
-      ≡ goOn (movedTo s Placing stored 0)
-  unfolding judgedFB fieldsFB resumeAt
-  granted-fb stored is fits small crc =
-      let sum = checksum crc32 (take stored image) in
-      let b = replyBytes 0xFB (replyFB channel granted stored sum) in
-      let r = replies-read-back .fb channel granted stored sum small crc in
-      in-phase b Telling is (replies-read-back .fb-reply channel granted stored sum) (ap (λ (x : ReplyFB). x .channel) r)
+  pub granted-fb : (stored crc : ℕ) → s .position .phase ≡ Telling → stored < max32 → crc < max32
+      → afterReply s image (replyBytes 0xFB (replyFB channel granted stored crc))
+      ≡ goOn (movedTo s Placing (resumeAt (record { channel = channel; state = granted; stored = stored; crc = crc }) image) 0)
+  unfolding judgedFB fieldsFB
+  granted-fb stored crc is small fits =
+      let b = replyBytes 0xFB (replyFB channel granted stored crc) in
+      let r = replies-read-back .fb channel granted stored crc small fits in
+      in-phase b Telling is (replies-read-back .fb-reply channel granted stored crc) (ap (λ (x : ReplyFB). x .channel) r)
       ∙ ap (λ (x : ReplyFB). judgedFB s x image) r
-      ∙ simp (le-ltb (length image) stored fits, eq-eqb sum sum refl)
 
   pub granted-fc : s .position .phase ≡ Placing → s .position .place < max32
       → afterReply s image (replyBytes 0xFC (replyFC channel (s .position .place))) ≡ goOn (onward s (s .position .place) 0)
@@ -91,9 +87,13 @@ module _ (s : Sender) (image : List ℕ) (ok : senderRefusal s (length image) �
       let r = replies-read-back .fd channel granted in
       in-phase b Sending is (replies-read-back .fd-reply channel granted) (ap (λ (x : ReplyState). x .channel) r) ∙ ap (judgedFD s) r
 
-  pub granted-fe : s .position .phase ≡ Ending → afterReply s image (replyBytes 0xFE (replyState channel granted)) ≡ done s
+  -- FE's 00
+  pub end-done : (b : List ℕ) → s .position .phase ≡ Ending → isReply 0xFE b ≡ true
+      → fieldsState (dataAt b) ≡ record { channel = channel; state = granted } → afterReply s image b ≡ done s
   unfolding judgedFE fieldsState
+  end-done b is own r = in-phase b Ending is own (ap (λ (x : ReplyState). x .channel) r) ∙ ap (judgedFE s) r
+
+  pub granted-fe : s .position .phase ≡ Ending → afterReply s image (replyBytes 0xFE (replyState channel granted)) ≡ done s
   granted-fe is =
-      let b = replyBytes 0xFE (replyState channel granted) in
-      let r = replies-read-back .fe channel granted in
-      in-phase b Ending is (replies-read-back .fe-reply channel granted) (ap (λ (x : ReplyState). x .channel) r) ∙ ap (judgedFE s) r
+      end-done (replyBytes 0xFE (replyState channel granted)) is (replies-read-back .fe-reply channel granted)
+      (replies-read-back .fe channel granted)

@@ -5,10 +5,9 @@ use mathlib.Core.List.{List}
 use Prim.Native.Nat.{ℕ, _+_, _*_, _-_, _≤_, _<_}
 use native.Mathlib.Nat.{zero-mul, add-mul, one-mul}
 use native.Mathlib.Omega.{arith}
-use borrow.Author.Tests.{ltb-true, ltb-false, eqb-true}
+use borrow.Author.Tests.{ltb-true, eqb-true}
 use lib.Dec.{ltb, eqb}
-use lib.ListN.{length, take}
-use Rattle.crc.specs.Crc.{checksum, crc32}
+use lib.ListN.{length}
 use Rattle.frames.specs.Buffer.{dataAt}
 use Rattle.sequences.proofs.Conditionals.{of-both, of-each}
 use Rattle.commands.specs.Limits.{maxPacket}
@@ -35,6 +34,7 @@ use Rattle.sender.specs.Kept.{Keeps}
 use Rattle.sender.proofs.Phases.{of-phase}
 use Rattle.sender.proofs.RulesKept.{lawful, lawful-accepted}
 use Rattle.sender.proofs.Refusals.{same-length}
+use Rattle.sender.proofs.Resumptions.{resume-fits}
 
 -- the phases in which place and number are not looked at
 abbrev pub Free : Phase → Type 0
@@ -145,13 +145,6 @@ module _ (s : Sender) where
   fa-keeps r =
       of-both (Keeps s) (ltb deniedFA (r .flag) || not (eqb (r .len2) maxPacket)) _ _ (refused-keeps wrongReply)
       (of-both (Keeps s) (eqb (r .flag) granted) _ _ (moved-keeps decision.GoOn Telling (free Telling refl)) given-up-keeps)
-
-  resume-fits : (r : ReplyFB) (image : List ℕ) → resumeAt r image ≤ length image
-  unfolding resumeAt
-  resume-fits r image =
-      let P : ℕ → Type 0 = λ n. n ≤ length image in
-      of-each P (ltb (length image) (r .stored)) _ _ (λ e. omega arith)
-      (λ e. of-both P (eqb (checksum crc32 (take (r .stored) image)) (r .crc)) _ _ (ltb-false (length image) (r .stored) e) (omega arith))
 
   fb-keeps : (r : ReplyFB) (image : List ℕ) → length image ≡ s .offer .length → Keeps s (judgedFB s r image)
   unfolding judgedFB

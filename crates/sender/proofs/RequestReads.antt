@@ -2,7 +2,7 @@
 use mathlib.Core.Path.{_≡_, refl, sym, ap, ap₂, subst, _∙_}
 use mathlib.Core.Bool.{false}
 use mathlib.Core.List.{List, _++_}
-use Prim.Native.Nat.{ℕ, _+_, _*_, _-_, _≤_, _<_}
+use Prim.Native.Nat.{ℕ, _+_, _*_, _-_, _≤_}
 use native.Mathlib.Nat.{mul-le-mul-left}
 use native.Mathlib.Omega.{arith}
 use lib.ListN.{length, take, drop, length-take}
@@ -19,7 +19,6 @@ use Rattle.frames.proofs.FedAlone.{fed-written}
 use Rattle.commands.specs.declared.table.Header.the-variants.{Right}
 use Rattle.commands.specs.Limits.{minPacket, maxPacket}
 use Rattle.requests.specs.RequestFrames.{dataFA, dataFB, dataFC, dataFD, dataFE, requestFrame}
-use Rattle.sequences.specs.Numbers.{max16}
 use Rattle.requests.specs.RoundTrips.{FitsFB, FitsFD, sent, headerIn}
 use Rattle.requests.proofs.RoundTrips.{requests-read-back, request-payload, sent-command, size-fa, size-fb, size-fc, size-fd, size-fe}
 use Rattle.sender.specs.declared.phase.Phase.{Phase}
@@ -28,7 +27,7 @@ use Rattle.sender.specs.declared.sender.Sender.{Sender}
 use Rattle.sender.specs.declared.request.Requested.{Requested}
 use Rattle.sender.specs.Phases.{byPhase, isFinal}
 use Rattle.sender.specs.Senders.{packetSize, nextSize}
-use Rattle.sender.specs.Rules.{breaksRules}
+use Rattle.sender.specs.Rules.{breaksRules, NumberFits}
 use Rattle.sender.specs.Requests.{askingFor, tellingOf, placingAt, nextPacket, sendingOf, requestOf, requested}
 use Rattle.sender.specs.RequestRead.{Typed, FieldsIn, RequestsRead}
 use Rattle.sender.proofs.RulesKept.{lawful}
@@ -39,7 +38,7 @@ use Rattle.sender.proofs.Requests.{request-written}
 -- ---- numbers that fit their fields
 
 -- "number × packet ≤ place < 1,048,576 ≤ 65,536 × packet"
-pub number-fits : (s : Sender) → breaksRules s ≡ false → s .position .phase ≡ Sending → s .position .number < max16
+pub number-fits : NumberFits
 number-fits s ok is =
     let l = lawful s ok in
     let packet = packet-some (s .offer .size) (l .least-size) in
@@ -75,7 +74,7 @@ module _ (s : Sender) (image : List ℕ) (ok : breaksRules s ≡ false) (typed :
 -- ---- the frame, phase by phase
 
 -- what holds of a request
-pub record Readable (p : Phase) (s : Sender) (image : List ℕ) (f : Frame) : Type 0 where
+record Readable (p : Phase) (s : Sender) (image : List ℕ) (f : Frame) : Type 0 where
   pub small : length (f .payload) ≤ maxData
   pub header : headerIn (finished f) ≡ Right
   pub fields : FieldsIn p s image (finished f)

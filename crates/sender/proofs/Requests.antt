@@ -1,4 +1,4 @@
--- The call that writes the next request, case by case. Assumes nothing.
+-- The call that writes the next request, case by case, and which it is. Assumes nothing.
 use mathlib.Core.Path.{_≡_, refl}
 use mathlib.Core.Bool.{true, false}
 use mathlib.Core.List.{List}
@@ -7,10 +7,12 @@ use borrow.Author.Tests.{ne-eqb, lt-ltb, le-ltb}
 use lib.ListN.{length}
 use Rattle.fronts.specs.Frame.{maxFrame}
 use Rattle.frames.specs.Buffer.{writtenSize, writtenRoom}
+use Rattle.sender.specs.declared.phase.Phase.the-variants.{Asking, Telling}
 use Rattle.sender.specs.declared.sender.Sender.{Sender}
 use Rattle.commands.specs.Outcomes.{accepted, shortRoom}
 use Rattle.sender.specs.Phases.{isFinal}
 use Rattle.sender.specs.Requests.{requestOf, senderRefusal, requestOutcome, requested, roomRequested}
+use Rattle.sender.specs.Exchanges.{frameFA, frameFB}
 
 module _ (s : Sender) (image room : List ℕ) where
   -- nothing is written
@@ -36,3 +38,14 @@ module _ (s : Sender) (image room : List ℕ) where
           × (roomRequested s image room ≡ writtenRoom (requestOf s image) room)
       unfolding requested roomRequested requestOutcome
       request-written o = let f = le-ltb (length room) maxFrame wide in (simp (ok, f, o), simp (ok, f, o))
+
+-- ---- which request it is, by its fields
+
+module _ (s : Sender) (image : List ℕ) where
+  pub frame-asking : s .position .phase ≡ Asking → requestOf s image ≡ frameFA (s .offer)
+  unfolding requestOf
+  frame-asking is = simp is
+
+  pub frame-telling : s .position .phase ≡ Telling → length image ≡ s .offer .length → requestOf s image ≡ frameFB (s .offer) image
+  unfolding requestOf
+  frame-telling is size = simp (is, size)

@@ -12,7 +12,7 @@ use Rattle.sender.specs.declared.phase.Phase.the-variants.{Asking, Telli
 use Rattle.sender.specs.declared.sender.Sender.{Sender}
 use Rattle.sender.specs.Phases.{byPhase}
 use Rattle.sender.specs.Senders.{maxSilences, packetSize}
-use Rattle.sender.specs.Rules.{badOffer, badTries, badPacket, breaksRules, KeepsRules}
+use Rattle.sender.specs.Rules.{badOffer, badTries, badPacket, breaksRules, KeepsRules, RulesMean}
 
 -- the place's rule, by the phase
 abbrev PlaceIn : Sender → Phase → Type 0
@@ -73,3 +73,6 @@ lawful-accepted s l =
     place Ending q = refl
     place Done q = refl
     place GivenUp q = refl
+
+pub rules-mean : RulesMean
+rules-mean s = (lawful s, lawful-accepted s)

@@ -9,4 +9,8 @@ pub mod Replies
 pub mod Silences
 pub mod RequestRead
 pub mod Kept
+pub mod Deciding
+pub mod Resuming
+pub mod Exchanges
 pub mod Granted
+pub mod AllSilent

@@ -13,7 +13,7 @@ abbrev pub offerOf : ℕ → List ℕ → List ℕ → List ℕ → ℕ → ℕ 
 offerOf channel pid version md5 size n =
     record { channel = channel; pid = pid; version = version; md5 = md5; size = size; length = n }
 
--- "20: opening: size below 16, or the image empty or above 1,048,576": "the all-zero record"
+-- 20: "opening: size below 16, or the image empty or above 1,048,576", and then "the all-zero record"
 unfoldable pub openedSender : Offer → Opened
 openedSender o =
     cond (badOffer o) (record { outcome = wrongImage; sender = noSender }) (record { outcome = accepted; sender = freshSender o })

@@ -24,6 +24,6 @@ isFinal Ending = false
 isFinal Done = true
 isFinal GivenUp = true
 
--- the command of the request; "done, given up: none"
+-- the command of the request; in "done, given up" there is none
 abbrev pub commandOf : Phase → ℕ
 commandOf p = byPhase p 0xFA 0xFB 0xFC 0xFD 0xFE 0 0

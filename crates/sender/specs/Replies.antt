@@ -30,14 +30,14 @@ ownReply s b = isReply (commandOf (s .position .phase)) b && eqb (replyChannel (
 abbrev pub unless : Sender → Bool → Decided → Decided
 unless s wrong d = cond wrong (nothingDecided s wrongReply) d
 
--- ---- asking: "21 unless 00 FA, L 7, channel, flag 0 or 1, Len2 512"; "flag 0: go on, telling. Flag 1: given up"
+-- ---- asking: 21 unless "00 FA, L 7, channel, flag 0 or 1, Len2 512"; "flag 0: go on, telling. Flag 1: given up"
 
 unfoldable pub judgedFA : Sender → ReplyFA → Decided
 judgedFA s r =
     unless s (ltb deniedFA (r .flag) || not (eqb (r .len2) maxPacket))
     (cond (eqb (r .flag) granted) (goOn (movedTo s Telling 0 0)) (givenUp s))
 
--- ---- telling: "21 unless 10 FB, L 26, channel, state 0 to 3"
+-- ---- telling: 21 unless "10 FB, L 26, channel, state 0 to 3"
 
 -- "place is the reply's stored if that is at most length and the reply's CRC-32 is that of the image's first stored bytes, else 0"
 unfoldable pub resumeAt : ReplyFB → List ℕ → ℕ
@@ -48,7 +48,7 @@ unfoldable pub judgedFB : Sender → ReplyFB → List ℕ → Decided
 judgedFB s r image =
     unless s (ltb badLengthFB (r .state)) (cond (eqb (r .state) granted) (goOn (movedTo s Placing (resumeAt r image) 0)) (givenUp s))
 
--- ---- placing: "21 unless 00 FC, L 5, channel, offset the asked one or 0"
+-- ---- placing: 21 unless "00 FC, L 5, channel, offset the asked one or 0"
 
 -- "sending if place is .. below length, else ending"; after ending begins place and number are 0
 unfoldable pub onward : Sender → ℕ → ℕ → Sender
@@ -58,14 +58,14 @@ onward s place number = cond (ltb place (s .offer .length)) (movedTo s Sending p
 unfoldable pub judgedFC : Sender → ReplyFC → Decided
 judgedFC s r = unless s (not (eqb (r .offset) (s .position .place) || eqb (r .offset) 0)) (goOn (onward s (r .offset) 0))
 
--- ---- sending: "21 unless 00 FD, L 2, channel, state 0 to 4"; "state 0: go on; place + n, number + 1 .. State 1 to 4: leg over"
+-- ---- sending: 21 unless "00 FD, L 2, channel, state 0 to 4"; "state 0: go on; place + n, number + 1 .. State 1 to 4: leg over"
 
 unfoldable pub judgedFD : Sender → ReplyState → Decided
 judgedFD s r =
     let after = onward s (s .position .place + nextSize s) (s .position .number + 1) in
     unless s (ltb notReceivingFD (r .state)) (cond (eqb (r .state) granted) (goOn after) (legOver s))
 
--- ---- ending: "21 unless 00 FE, L 2, channel, state 0, 1 or 3"; "state 0: done. State 1 or 3: leg over"
+-- ---- ending: 21 unless "00 FE, L 2, channel, state 0, 1 or 3"; "state 0: done. State 1 or 3: leg over"
 
 unfoldable pub judgedFE : Sender → ReplyState → Decided
 judgedFE s r =

@@ -49,7 +49,7 @@ sendingOf s image =
 abbrev pub packetFrame : Sender → List ℕ → Frame
 packetFrame s image = requestFrame 0xFD (dataFD (sendingOf s image) (nextPacket s image))
 
--- "00 FE: channel"; "done, given up: none"
+-- "00 FE: channel"; in "done, given up" there is none
 unfoldable pub requestOf : Sender → List ℕ → Frame
 requestOf s image =
     byPhase (s .position .phase)
@@ -67,7 +67,7 @@ requestOf s image =
 unfoldable pub senderRefusal : Sender → ℕ → ℕ
 senderRefusal s n = cond (breaksRules s) rulesBroken (cond (eqb n (s .offer .length)) accepted wrongImage)
 
--- "5: room below 526 bytes, in every phase"
+-- 5: "room below 526 bytes, in every phase"
 unfoldable pub requestOutcome : Sender → List ℕ → List ℕ → ℕ
 requestOutcome s image room =
     let refusal = senderRefusal s (length image) in

@@ -3,8 +3,10 @@
 -- above place." Assumes nothing.
 use mathlib.Core.Path.{_≡_}
 use mathlib.Core.Bool.{Bool, false, not, _||_}
-use Prim.Native.Nat.{ℕ, _*_, _≤_, _<_}
+use mathlib.Core.Logic.{_↔_}
+use Prim.Native.Nat.{_*_, _≤_, _<_}
 use lib.Dec.{ltb, eqb}
+use Rattle.sequences.specs.Numbers.{max16}
 use Rattle.commands.specs.Limits.{minPacket, maxArea}
 use Rattle.sender.specs.declared.phase.Phase.the-variants.{Placing, Sending}
 use Rattle.sender.specs.declared.sender.Offer.{Offer}
@@ -33,7 +35,7 @@ badPosition p o = byPhase (p .phase) false false (ltb (o .length) (p .place)) (b
 unfoldable pub breaksRules : Sender → Bool
 breaksRules s = badOffer (s .offer) || (badTries (s .tries) || badPosition (s .position) (s .offer))
 
--- The same as propositions, one to a rule; they are proved to hold exactly where `breaksRules` is false.
+-- The same as propositions, one to a rule.
 pub record KeepsRules (s : Sender) : Type 0 where
   pub least-size : minPacket ≤ s .offer .size
   pub some-image : 0 < s .offer .length
@@ -43,3 +45,11 @@ pub record KeepsRules (s : Sender) : Type 0 where
   pub placing : s .position .phase ≡ Placing → s .position .place ≤ s .offer .length
   pub sending : s .position .phase ≡ Sending → s .position .place < s .offer .length
   pub numbered : s .position .phase ≡ Sending → s .position .number * packetSize (s .offer .size) ≤ s .position .place
+
+-- The claim: the two say the same.
+abbrev pub RulesMean : Type 0
+RulesMean = (s : Sender) → (breaksRules s ≡ false) ↔ KeepsRules s
+
+-- The claim: "The last keeps the number within two bytes".
+abbrev pub NumberFits : Type 0
+NumberFits = (s : Sender) → breaksRules s ≡ false → s .position .phase ≡ Sending → s .position .number < max16

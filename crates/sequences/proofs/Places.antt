@@ -8,7 +8,7 @@ use native.Mathlib.Omega.{arith}
 use borrow.Author.Tests.{le-leb, lt-leb}
 use lib.ListN.{length, take, drop, length-append, length-drop, drop-of-length-le}
 use lib.Seq.{take-all, take-length, take-take, take-append-seam, take-append-le, drop-at, drop-drop, drop-append-add, length-take-le}
-use Rattle.sequences.specs.Places.{writtenAt, WritesOnly}
+use Rattle.sequences.specs.Places.{writtenAt, WritesAnywhere}
 use Rattle.sequences.proofs.Orders.{lt-or-le}
 use Rattle.sequences.proofs.Slices.{slice-cut}
 
@@ -97,7 +97,7 @@ module _ (all p : List ℕ) (at : ℕ) where
       ∙ ap (λ (k : ℕ). drop k all) whole)
       refl
 
-pub writes-only : (s : List ℕ) (at : ℕ) (p : List ℕ) → WritesOnly s at p
+pub writes-only : WritesAnywhere
 writes-only s at p =
     record { there = written-there s p at; before = written-before s p at; behind = written-behind s p at; size = written-size s p at }
 

@@ -9,7 +9,7 @@ use borrow.Author.Tests.{eqb-true, eq-eqb, ne-eqb}
 use lib.Dec.{eqb}
 use lib.ListN.{length, drop, getD, drop-of-length-le}
 use lib.Seq.{drop-cons}
-use Rattle.sequences.specs.Comparing.{same}
+use Rattle.sequences.specs.Comparing.{same, SameIsEqual}
 
 pub same-self : (s : List ℕ) → same s s ≡ true
 unfolding same
@@ -24,6 +24,9 @@ same-equal (a ∷ s) [] e = let z : _≡_ {A = ℕ} 0 1 = cc in absurd (omega ar
 same-equal (a ∷ s) (b ∷ t) e =
     let p = and-eq-true-iff (eqb a b) (same s t) .0 e in
     ap₂ _∷_ (eqb-true a b (p .0)) (same-equal s t (p .1))
+
+pub same-is-equal : SameIsEqual
+same-is-equal s t = (same-equal s t, λ e. ap (same s) (sym e) ∙ same-self s)
 
 pub lengths-differ : (s t : List ℕ) → (length s ≡ length t → ⊥) → same s t ≡ false
 unfolding same

@@ -1,4 +1,6 @@
 -- Byte strings, "compared as they stand". Assumes nothing.
+use mathlib.Core.Path.{_≡_}
+use mathlib.Core.Logic.{_↔_}
 use mathlib.Core.Bool.{Bool, true, false, _&&_}
 use mathlib.Core.List.{List, [], _∷_}
 use Prim.Native.Nat.{ℕ}
@@ -11,6 +13,10 @@ same [] [] = true
 same [] (b ∷ t) = false
 same (a ∷ s) [] = false
 same (a ∷ s) (b ∷ t) = eqb a b && same s t
+
+-- The claim: they are the same exactly when they are equal.
+abbrev pub SameIsEqual : Type 0
+SameIsEqual = (s t : List ℕ) → (same s t ≡ true) ↔ (s ≡ t)
 
 -- s begins with the bytes t
 abbrev pub beginsWith : List ℕ → List ℕ → Bool

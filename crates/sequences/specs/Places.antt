@@ -10,9 +10,13 @@ use lib.ListN.{length, take, drop}
 unfoldable pub writtenAt : List ℕ → ℕ → List ℕ → List ℕ
 writtenAt s at p = cond (leb (at + length p) (length s)) (take at s ++ (p ++ drop (at + length p) s)) s
 
--- The claim, over every start and length: what is written stands there, and nothing else has changed.
+-- what is written stands there, and nothing else has changed
 pub record WritesOnly (s : List ℕ) (at : ℕ) (p : List ℕ) : Type 0 where
   pub there : at + length p ≤ length s → take (length p) (drop at (writtenAt s at p)) ≡ p
   pub before : (from n : ℕ) → from + n ≤ at → take n (drop from (writtenAt s at p)) ≡ take n (drop from s)
   pub behind : (from : ℕ) → at + length p ≤ from → drop from (writtenAt s at p) ≡ drop from s
   pub size : length (writtenAt s at p) ≡ length s
+
+-- The claim, of every start and length.
+abbrev pub WritesAnywhere : Type 0
+WritesAnywhere = (s : List ℕ) (at : ℕ) (p : List ℕ) → WritesOnly s at p

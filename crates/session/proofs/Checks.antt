@@ -40,6 +40,7 @@ use Rattle.session.specs.Checking.{checkedBy, checked}
 use Rattle.session.specs.OneGo.{inOneGo}
 use Rattle.session.proofs.Lawfuls.{lawful, lawful-accepted}
 use Rattle.session.proofs.Headers.{by-header}
+use Rattle.session.proofs.OneGoes.{called-in-one-go}
 use Rattle.session.specs.Transfers.{withTransfer}
 use Rattle.session.proofs.Kept.{fe-kept}
 use Rattle.session.proofs.TableFrames.{is-fe}
@@ -224,15 +225,16 @@ abbrev pub dueOf : Session → List ℕ → Step
 dueOf s area = endedFE (s .transfer) (willSay (s .transfer) area)
 
 -- as the check in one go has it
-pub started-due : (s : Session) (f : FinishedFrame) (area : List ℕ) → answered s f area .session .transfer .check .running ≡ true
-    → StartedBy s f area
+pub started-due : (s : Session) (f : FinishedFrame) (area : List ℕ) → unlawful s ≡ false → length area ≡ s .opened
+    → answered s f area .session .transfer .check .running ≡ true → StartedBy s f area
     → inOneGo s f area ≡ stepped (answered s f area .session) (dueOf (answered s f area .session) area)
-unfolding inOneGo
-started-due s f area e y =
+started-due s f area ok size e y =
     let a = answered s f area in
     let says = ap (λ (x : Answer). willSay (x .session .transfer) area) (y .is) ∙ started-says (s .transfer) area
     ∙ sym (ap (λ (x : Answer). rightCrc (x .session .transfer) area) (y .is)) in
-    rw e (ap (λ (b : Bool). stepped (a .session) (endedFE (a .session .transfer) b)) (sym says))
+    called-in-one-go s f area ok size
+    ∙ ap (λ (b : Bool). cond b (stepped (a .session) (endedFE (a .session .transfer) (rightCrc (a .session .transfer) area))) a) e
+    ∙ ap (λ (b : Bool). stepped (a .session) (endedFE (a .session .transfer) b)) (sym says)
 
 module _ (s : Session) (most : ℕ) (area : List ℕ) (ok : unlawful s ≡ false) (size : length area ≡ s .opened)
     (runs : s .transfer .check .running ≡ true) where

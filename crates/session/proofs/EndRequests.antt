@@ -37,6 +37,7 @@ use Rattle.session.specs.OneGo.{inOneGo}
 use Rattle.session.specs.EndRequest.{IsEndRequest, Complete, SuccessIn, EndRequest}
 use Rattle.session.proofs.Headers.{by-header}
 use Rattle.session.proofs.Lawfuls.{lawful}
+use Rattle.session.proofs.OneGoes.{called-in-one-go}
 
 -- ---- the transfer's part
 
@@ -164,15 +165,15 @@ module _ (s : Session) (f : FinishedFrame) (channel : ℕ) (area : List ℕ) (e 
 
     -- with the check in one go
     in-one-go : inOneGo s f area ≡ cond listed (stepped s (goFE t channel area)) (unchanged 4 s)
-    unfolding inOneGo answerFE goFE endedFE
+    unfolding answerFE goFE endedFE
     in-one-go = go listed (early t channel) (short t) refl refl refl
       where
         go : (l a b : Bool) → listed ≡ l → early t channel ≡ a → short t ≡ b
             → inOneGo s f area ≡ cond listed (stepped s (goFE t channel area)) (unchanged 4 s)
-        go false a b el ea eb = rw fe-routed (simp (el, still))
-        go true true b el ea eb = rw fe-routed (simp (el, ea, still))
-        go true false true el ea eb = rw fe-routed (simp (el, ea, eb, still))
-        go true false false el ea eb = rw fe-routed (simp (el, ea, eb))
+        go false a b el ea eb = called-in-one-go s f area e size ∙ rw fe-routed (simp (el, still))
+        go true true b el ea eb = called-in-one-go s f area e size ∙ rw fe-routed (simp (el, ea, still))
+        go true false true el ea eb = called-in-one-go s f area e size ∙ rw fe-routed (simp (el, ea, eb, still))
+        go true false false el ea eb = called-in-one-go s f area e size ∙ rw fe-routed (simp (el, ea, eb))
 
     chosen : (l : Bool) → listed ≡ l → inOneGo s f area ≡ cond l (stepped s (goFE t channel area)) (unchanged 4 s)
     chosen l el = in-one-go ∙ ap (λ (x : Bool). cond x (stepped s (goFE t channel area)) (unchanged 4 s)) el

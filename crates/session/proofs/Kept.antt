@@ -41,6 +41,7 @@ use Rattle.session.specs.Lawful.{unlawful, Lawful}
 use Rattle.session.specs.Answering.{unchanged, placeFor, effectOf, routed, headerOfFrame, judged, reaction, answered, areaAfter}
 use Rattle.session.proofs.Headers.{by-header}
 use Rattle.session.proofs.Lawfuls.{lawful, lawful-accepted}
+use Rattle.session.specs.Kept.{StaysOpened, AnswersKeep}
 
 false-true : {A : Type 0} → false ≡ true → A
 false-true e = let z : _≡_ {A = ℕ} 0 1 = cc in absurd (omega arith)
@@ -223,19 +224,12 @@ module _ (s : Session) (k : Lawful s) (still : s .transfer .check .running ≡ f
       (of-both P (eqb (f .command) 0xFD) _ _ (fd-kept (requestFD (f .bytes)) (packetOf (f .length) (f .bytes)) area)
       (fe-kept (channelOf (f .bytes))))))
 
--- what every answer keeps
-pub record Keeps (s : Session) (a : Answer) : Type 0 where
-  pub accepted : unlawful (a .session) ≡ false
-  pub same-list : a .session .boards ≡ s .boards
-  pub same-count : a .session .count ≡ s .count
-  pub same-area : a .session .opened ≡ s .opened
-
-pub answer-keeps : (s : Session) (f : FinishedFrame) (area : List ℕ) → unlawful s ≡ false → Keeps s (answered s f area)
+pub answer-keeps : (s : Session) (f : FinishedFrame) (area : List ℕ) → unlawful s ≡ false → StaysOpened s (answered s f area)
 unfolding reaction judged routed
 answer-keeps s f area e =
-    let P : Effect Answer → Type 0 = λ x. Keeps s (x .gives) in
+    let P : Effect Answer → Type 0 = λ x. StaysOpened s (x .gives) in
     let same : (n : ℕ) → P (unwritten (unchanged n s) area) =
-    λ n. record { accepted = e; same-list = refl; same-count = refl; same-area = refl } in
+    λ n. record { lawful = e; same-list = refl; same-count = refl; same-opened = refl } in
     of-each P (unlawful s) _ _ (λ _. same 9)
     (λ _. of-each P (not (eqb (length area) (s .opened))) _ _ (λ _. same 6)
     (λ z.
@@ -246,7 +240,7 @@ answer-keeps s f area e =
     (λ here. of-each P (s .transfer .check .running) _ _ (λ _. same 12)
     (λ still.
     let next = step-kept s (lawful s e) still f (getD (s .boards) (placeFor s f) pastBoard) area size (ltb-true _ _ here) in
-    record { accepted = lawful-accepted _ next; same-list = refl; same-count = refl; same-area = refl }))
+    record { lawful = lawful-accepted _ next; same-list = refl; same-count = refl; same-opened = refl }))
     (λ _. same 4)))))
 
 -- the area keeps its length
@@ -270,3 +264,6 @@ area-size s f area =
     (of-both Q (takes (s .transfer) r p area) _ _ (written-size area p (s .transfer .progress .stored)) refl)
     refl)))))
     refl))))
+
+pub answers-keep : AnswersKeep
+answers-keep = record { session = answer-keeps; area-size = area-size }

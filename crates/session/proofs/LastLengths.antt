@@ -23,7 +23,7 @@ use Rattle.agreement.specs.FC.{answerFC}
 use Rattle.ending.specs.FE.{answerFE, endedFE}
 use Rattle.ending.proofs.Results.{end-failed}
 use Rattle.packets.proofs.Repetitions.{never-repeated, first-never-repeated}
-use Rattle.session.specs.LastLength.{LastLength}
+use Rattle.session.specs.LastLength.{LastLengths}
 
 module _ (t : Transfer) where
   fc-none : (r : RequestFC) → answerFC t r .answered ≡ true → answerFC t r .transfer .progress .last ≡ 0
@@ -71,7 +71,7 @@ module _ (t : Transfer) where
       of-both (λ (s : Step). s .transfer .progress .last ≡ t .progress .last) (idle (t .leg .phase) || otherChannel t (r .channel)) _ _ refl
       (simp (ne-eqb (stateFB b r (length area)) granted refused))
 
-pub last-length : (t : Transfer) → LastLength t
+pub last-length : LastLengths
 last-length t =
     record {
       fc-none = fc-none t;

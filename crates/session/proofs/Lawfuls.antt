@@ -16,7 +16,7 @@ use Rattle.session.specs.declared.session.Session.{Session}
 use Rattle.boards.specs.Boards.{maxBoards, placeOf, badList}
 use Rattle.boards.proofs.Places.{list-fits}
 use Rattle.session.specs.Opening.{badArea}
-use Rattle.session.specs.Lawful.{badLengths, badLast, badCheck, badSize, badSessionFields, unlawful, Lawful}
+use Rattle.session.specs.Lawful.{badLengths, badLast, badCheck, badSize, badSessionFields, unlawful, Lawful, LawfulMeans}
 
 unless : (a b : Bool) → cond a false b ≡ false → a ≡ false → b ≡ false
 unless true b e h = let z : _≡_ {A = ℕ} 0 1 = cc in absurd (omega arith)
@@ -133,3 +133,6 @@ lawful-inside s n e size = let fits = lawful s e .announced in omega arith
 
 pub lawful-count : (s : Session) → unlawful s ≡ false → s .count ≤ maxBoards
 lawful-count s e = list-fits (s .boards) (s .count) (lawful s e .list)
+
+pub lawful-means : LawfulMeans
+lawful-means s = (lawful s, lawful-accepted s)

@@ -2,6 +2,7 @@
 mod Headers
 pub mod TableFrames
 pub mod Lawfuls
+pub mod OneGoes
 pub mod Kept
 pub mod EndRequests
 pub mod Unanswered

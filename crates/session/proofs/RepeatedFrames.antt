@@ -4,40 +4,44 @@ use mathlib.Core.Bool.{Bool, true, false, not}
 use mathlib.Core.List.{List, [], _∷_}
 use Prim.Native.Nat.{ℕ, _+_, _<_}
 use native.Mathlib.Omega.{arith}
-use borrow.Author.Tests.{eqb-true, eq-eqb, lt-ltb, not-false}
+use borrow.Author.Tests.{eqb-true, eqb-false, eq-eqb, lt-ltb, not-false}
 use lib.Dec.{ltb, eqb}
 use lib.ListN.{length, getD}
 use Rattle.frames.specs.declared.finished.FinishedFrame.{FinishedFrame}
 use Rattle.sequences.specs.Padding.{padded}
 use Rattle.requests.specs.declared.request.RequestFD.{RequestFD}
 use Rattle.commands.specs.declared.table.Header.the-variants.{Right}
-use Rattle.requests.specs.Requests.{requestFD}
+use Rattle.requests.specs.Requests.{channelOf, requestFA, requestFD}
 use Rattle.commands.specs.Limits.{maxReply}
 use Rattle.replies.specs.Replies.{replyState}
 use Rattle.boards.specs.declared.board.Board.{Board}
 use Rattle.transfer.specs.declared.state.Transfer.{Transfer}
 use Rattle.transfer.specs.declared.state.Step.{Step}
 use Rattle.transfer.specs.Phases.{receiving}
-use Rattle.image.specs.Progresses.{lastStored}
 use Rattle.transfer.specs.Transfers.{Effect, unwritten, replied}
 use Rattle.packets.specs.FD.{stateFD, takes, afterPacket, areaWith, effectFD}
-use Rattle.packets.specs.Repeats.{TransferAndArea}
 use Rattle.sequences.proofs.Conditionals.{neither, of-both, of-each}
 use Rattle.transfer.proofs.PhaseLaws.{receiving-busy}
 use Rattle.packets.proofs.Packets.{taken}
-use Rattle.packets.proofs.Results.{effect-taken}
-use Rattle.packets.proofs.Repetitions.{passed-by, repeats-with-00, last-written, again-answered}
+use Rattle.packets.proofs.Results.{effect-taken, effect-not-taken, packet-refused}
+use Rattle.packets.proofs.Repetitions.{not-taken, again-answered, packet-left, repeated-packet}
 use Rattle.session.specs.declared.session.Session.{Session}
 use Rattle.session.specs.declared.answer.Answer.{Answer}
 use Rattle.boards.specs.Boards.{pastBoard, placeOf}
 use Rattle.session.specs.Lawful.{unlawful}
 use Rattle.session.specs.Answering.{unchanged, stepped, within, placeFor, effectOf, routed, headerOfFrame, judged, reaction, answered}
 use Rattle.session.specs.RepeatedFrame.{fieldsOf, packetIn, SessionAndArea, answerAt, thenFrame, thenFrames, TakenHere}
-use Rattle.session.specs.RepeatedFrame.{OtherPackets, AnswersWith, RepeatedFrame}
+use Rattle.session.specs.RepeatedFrame.{LeaveAlone, AnswersWith, RepeatedFrame, boardFor, FramesLeavingAlone}
 use Rattle.session.proofs.Headers.{by-header}
 use Rattle.session.proofs.Lawfuls.{lawful, lawful-inside}
 use Rattle.session.specs.Transfers.{withTransfer}
 use Rattle.session.proofs.Kept.{answer-keeps, area-size}
+use Rattle.agreement.specs.FA.{refusedFA, answerFA}
+use Rattle.ending.specs.FE.{reachesCrc}
+use Rattle.ending.proofs.Results.{unreached-unmoved}
+use Rattle.commands.specs.Outcomes.{accepted}
+use Rattle.session.proofs.Unanswered.{nothing-changed}
+use Rattle.packets.specs.Repeats.{Packet, TransferAndArea, stateTo, thenPacket}
 
 -- ---- a frame FD reaches the transfer
 
@@ -46,36 +50,77 @@ module _ (t : Transfer) (f : FinishedFrame) (is : f .command ≡ 0xFD) where
   unfolding effectOf
   fd-effect b area = rw is refl
 
--- ---- other packets than the next
+-- ---- frames that leave session and area as they are
 
--- nothing changes, whatever the session and the area
-fd-passed-by : (x : SessionAndArea) (g : FinishedFrame) → g .command ≡ 0xFD → (fieldsOf g .number ≡ x .session .transfer .leg .next → ⊥)
-    → thenFrame x g ≡ x
-unfolding reaction judged routed
-fd-passed-by x g is other =
-    let s = x .session in
-    let P : Effect Answer → Type 0 = λ e. (e .gives .session ≡ s) × (e .area ≡ x .area) in
-    let n = passed-by (record { transfer = s .transfer; area = x .area }) (record { request = fieldsOf g; bytes = packetIn g }) other in
-    let same : (k : ℕ) → P (unwritten (unchanged k s) (x .area)) = λ k. (refl, refl) in
-    let b = getD (s .boards) (placeFor s g) pastBoard in
-    let effect = fd-effect (s .transfer) g is b (x .area) in
-    let all : P (reaction s g (x .area)) =
-    of-both P (unlawful s) _ _ (same 9)
-    (of-both P (not (eqb (length (x .area)) (s .opened))) _ _ (same 6)
-    (by-header P (headerOfFrame g) _ _ _ (same 2) (same 3)
-    (of-both P (eqb (g .command) 0xF9) _ _ (same 0)
-    (of-both P (ltb (placeFor s g) (s .count)) _ _
-    (of-both P (s .transfer .check .running) _ _ (same 12) (
-      ap (λ (u : Effect Step). withTransfer s (u .gives .transfer)) effect ∙ ap (λ (l : TransferAndArea). withTransfer s (l .transfer)) n,
-      ap (λ (u : Effect Step). u .area) effect ∙ ap (λ (l : TransferAndArea). l .area) n,
-    ))
-    (same 4))))) in
-    ap₂ (λ (u : Session) (m : List ℕ). record { session = u; area = m }) (all .0) (all .1)
+module _ (x : SessionAndArea) (f : FinishedFrame) where
+  abbrev at : Session
+  at = x .session
 
-fd-all-passed-by : (x : SessionAndArea) (fs : List FinishedFrame) → OtherPackets (x .session .transfer .leg .next) fs → thenFrames x fs ≡ x
-fd-all-passed-by x [] none = refl
-fd-all-passed-by x (f ∷ fs) none =
-    ap (λ (y : SessionAndArea). thenFrames y fs) (fd-passed-by x f (none .0) (none .1 .0)) ∙ fd-all-passed-by x fs (none .1 .1)
+  abbrev board : Board
+  board = boardFor x f
+
+  -- the session and the area are as they were
+  abbrev Left : Effect Answer → Type 0
+  Left e = (e .gives .session ≡ at) × (e .area ≡ x .area)
+
+  same : (n : ℕ) → Left (unwritten (unchanged n at) (x .area))
+  same n = (refl, refl)
+
+  left-alone : Left (reaction at f (x .area)) → thenFrame x f ≡ x
+  left-alone l = ap₂ (λ (u : Session) (m : List ℕ). record { session = u; area = m }) (l .0) (l .1)
+
+  -- where the transfer's answer does, so does the session's: whatever is asked before the transfer leaves both
+  by-transfer : ((f .command ≡ 0xF9 → ⊥) → Left (within at (effectOf (at .transfer) f board (x .area)))) → thenFrame x f ≡ x
+  unfolding reaction judged routed
+  by-transfer step =
+      left-alone
+      (of-both Left (unlawful at) _ _ (same 9)
+      (of-both Left (not (eqb (length (x .area)) (at .opened))) _ _ (same 6)
+      (by-header Left (headerOfFrame f) _ _ _ (same 2) (same 3)
+      (of-each Left (eqb (f .command) 0xF9) _ _ (λ _. same 0)
+      (λ no. of-both Left (ltb (placeFor at f) (at .count)) _ _
+      (of-both Left (at .transfer .check .running) _ _ (same 12) (step (eqb-false (f .command) 0xF9 no)))
+      (same 4))))))
+
+  pub fd-untaken : f .command ≡ 0xFD → takes (at .transfer) (fieldsOf f) (packetIn f) (x .area) ≡ false → thenFrame x f ≡ x
+  fd-untaken is e =
+      let effect = fd-effect (at .transfer) f is board (x .area) ∙ effect-not-taken (at .transfer) (fieldsOf f) (packetIn f) (x .area) e in
+      by-transfer (λ _. (ap (λ (u : Effect Step). withTransfer at (u .gives .transfer)) effect, ap (λ (u : Effect Step). u .area) effect))
+
+  pub fd-passed-by : f .command ≡ 0xFD → (fieldsOf f .number ≡ at .transfer .leg .next → ⊥) → thenFrame x f ≡ x
+  fd-passed-by is other =
+      fd-untaken is
+      (not-taken (record { transfer = at .transfer; area = x .area }) (record { request = fieldsOf f; bytes = packetIn f }) other)
+
+  fa-refused : f .command ≡ 0xFA → refusedFA board (requestFA (f .bytes)) ≡ true → thenFrame x f ≡ x
+  unfolding effectOf answerFA
+  fa-refused is e = by-transfer (λ _. (rw is (rw e refl), rw is refl))
+
+  fe-unreached : f .command ≡ 0xFE → reachesCrc (at .transfer) (channelOf (f .bytes)) ≡ false → thenFrame x f ≡ x
+  unfolding effectOf
+  fe-unreached is e =
+      by-transfer (λ _. (rw is (ap (withTransfer at) (unreached-unmoved (at .transfer) (channelOf (f .bytes)) e)), rw is refl))
+
+  unanswered-left : (answerAt x f .outcome ≡ accepted → ⊥) → thenFrame x f ≡ x
+  unanswered-left other = let n = nothing-changed at f (x .area) other in left-alone (n .session, n .same-area)
+
+pub frames-leaving-alone : FramesLeavingAlone
+frames-leaving-alone x f =
+    let t = x .session .transfer in
+    record {
+      outcome = unanswered-left x f;
+      f9 = λ is. by-transfer x f (λ no. absurd (no is));
+      fa = fa-refused x f;
+      fd = fd-passed-by x f;
+      fd-refused = λ is no. fd-untaken x f is (packet-refused t (fieldsOf f) (packetIn f) (x .area) no);
+      fe = fe-unreached x f;
+    }
+
+all-left-alone : (x : SessionAndArea) (fs : List FinishedFrame) → LeaveAlone x fs → thenFrames x fs ≡ x
+all-left-alone x [] none = refl
+all-left-alone x (f ∷ fs) none = ap (λ (y : SessionAndArea). thenFrames y fs) (none .0) ∙ all-left-alone x fs (none .1)
+
+-- ---- the answers to packets
 
 -- a reply with state 00 is the transfer's
 state-of : (channel n : ℕ) → padded maxReply (replyState channel n) ≡ padded maxReply (replyState channel 0) → n ≡ 0
@@ -165,7 +210,7 @@ module _ (x : SessionAndArea) (f : FinishedFrame) (ok : unlawful (x .session) �
       ∙ ap (within s) (effect-taken (s .transfer) r p (x .area) (h .taken)))
 
   next-lawful : unlawful next ≡ false
-  next-lawful = subst (λ (y : SessionAndArea). unlawful (y .session) ≡ false) left (answer-keeps s f (x .area) ok .accepted)
+  next-lawful = subst (λ (y : SessionAndArea). unlawful (y .session) ≡ false) left (answer-keeps s f (x .area) ok .lawful)
 
   written-fits : length written ≡ s .opened
   written-fits = subst (λ (y : SessionAndArea). length (y .area) ≡ s .opened) left (area-size s f (x .area) ∙ size)
@@ -184,11 +229,7 @@ repeated-frame x f fs ok size h none =
     let came = taken t (fieldsOf f) (packetIn f) (x .area) (h .taken) in
     let next-is : y .session .transfer .leg .next ≡ fieldsOf f .number + 1 =
     ap (λ (z : SessionAndArea). z .session .transfer .leg .next) is ∙ ap (λ (n : ℕ). n + 1) (sym (came .number)) in
-    let still = fd-all-passed-by y fs (subst (λ (n : ℕ). OtherPackets n fs) (sym next-is) none) in
-    let bytes-are : lastStored (y .session .transfer .progress) (y .area) ≡ packetIn f =
-    ap (λ (z : SessionAndArea). lastStored (z .session .transfer .progress) (z .area)) is
-    ∙ sym (last-written t (fieldsOf f) (packetIn f) (x .area) (lawful-inside (x .session) (length (x .area)) ok size)
-    (h .taken) .same-bytes) in
+    let still = all-left-alone y fs none in
     let same : answerAt (thenFrames y fs) f ≡ stepped (next x f ok size h)
     (replied (next x f ok size h .transfer) (replyState (fieldsOf f .channel) 0)) =
     ap (λ (z : SessionAndArea). answerAt z f) (still ∙ is) ∙ again x f ok size h in
@@ -197,8 +238,14 @@ repeated-frame x f fs ok size h none =
       answered-00 = (ap (λ (a : Answer). a .outcome) same, ap (λ (a : Answer). a .reply) same);
       replies = ap (λ (a : Answer). a .replies) same;
       unchanged = ap (λ (z : SessionAndArea). thenFrame z f) still ∙ fd-passed-by y f (h .command) (λ n. omega arith);
-      other-bytes = λ g fd other differs w.
+      itself-alone = λ g fd other w.
           let z = with-00 (y .session) g (y .area) fd (subst (λ (l : SessionAndArea). AnswersWith (answerAt l g) (fieldsOf g) 0) still w) in
-          differs (repeats-with-00 (record { transfer = y .session .transfer; area = y .area })
-          (record { request = fieldsOf g; bytes = packetIn g }) (λ n. other (n ∙ next-is)) z .last .same-bytes ∙ bytes-are);
+          let at : TransferAndArea = record { transfer = t; area = x .area } in
+          let k : Packet = record { request = fieldsOf f; bytes = packetIn f } in
+          let q : Packet = record { request = fieldsOf g; bytes = packetIn g } in
+          let stands : record { transfer = y .session .transfer; area = y .area } ≡ thenPacket at k =
+          ap (λ (l : SessionAndArea). record { transfer = l .session .transfer; area = l .area }) is ∙ sym (packet-left at k (h .taken)) in
+          let same = repeated-packet at k (lawful-inside (x .session) (length (x .area)) ok size) (h .taken) .itself-alone q other .0
+          (ap (λ (l : TransferAndArea). stateTo l q) (sym stands) ∙ z) in
+          (ap (λ (l : Packet). l .request) same, ap (λ (l : Packet). l .bytes) same);
     }

@@ -8,9 +8,7 @@ use borrow.Author.Tests.{eq-eqb}
 use lib.Dec.{ltb, eqb}
 use lib.ListN.{length, getD}
 use Rattle.frames.specs.declared.finished.FinishedFrame.{FinishedFrame}
-use Rattle.sequences.specs.Padding.{zeros}
 use Rattle.requests.specs.Requests.{channelOf, requestFA, requestFB, requestFC, requestFD, packetOf}
-use Rattle.commands.specs.Limits.{maxReply}
 use Rattle.boards.specs.declared.board.Board.{Board}
 use Rattle.transfer.specs.declared.state.Transfer.{Transfer}
 use Rattle.transfer.specs.declared.state.Step.{Step}
@@ -29,6 +27,7 @@ use Rattle.boards.specs.Boards.{pastBoard}
 use Rattle.session.specs.Lawful.{unlawful}
 use Rattle.session.specs.Answering.{unchanged, within, placeFor, effectOf, routed, headerOfFrame, judged, reaction, answered}
 use Rattle.session.proofs.Headers.{by-header}
+use Rattle.session.specs.Unanswered.{NothingChanged, Unanswered}
 
 -- a step without an answer leaves the transfer and has no reply
 abbrev Still : Transfer → Step → Type 0
@@ -84,13 +83,6 @@ module _ (t : Transfer) where
       absurd (let z : _≡_ {A = ℕ} 0 1 = cc in omega arith))
       (λ e. (fe-still (channelOf (f .bytes)) e, refl)))))
 
--- the claim, of an answer and the area it leaves
-pub record NothingChanged (s : Session) (area : List ℕ) (a : Answer) (after : List ℕ) : Type 0 where
-  pub session : a .session ≡ s
-  pub no-reply : a .replies ≡ false
-  pub no-data : a .reply ≡ zeros maxReply
-  pub same-area : after ≡ area
-
 abbrev Quiet : Session → List ℕ → Effect Answer → Type 0
 Quiet s area x = (x .gives .outcome ≡ accepted → ⊥) → NothingChanged s area (x .gives) (x .area)
 
@@ -113,7 +105,7 @@ stepped-quiet s f b area z = go (effectOf (s .transfer) f b area .gives .answere
           same-area = still .1;
         }
 
-pub nothing-changed : (s : Session) (f : FinishedFrame) (area : List ℕ) → Quiet s area (reaction s f area)
+pub nothing-changed : Unanswered
 unfolding reaction judged routed
 nothing-changed s f area =
     let P = Quiet s area in

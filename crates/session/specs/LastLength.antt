@@ -21,6 +21,7 @@ use Rattle.packets.specs.FD.{repeats}
 use Rattle.ending.specs.FE.{answerFE, endedFE}
 use Rattle.ending.specs.Portions.{stepBy}
 
+-- what holds of every transfer
 pub record LastLength (t : Transfer) : Type 0 where
   -- FC, even where the offset is what is stored
   pub fc-none : (r : RequestFC) → answerFC t r .answered ≡ true → answerFC t r .transfer .progress .last ≡ 0
@@ -42,3 +43,7 @@ pub record LastLength (t : Transfer) : Type 0 where
   -- while it is 0 no packet is a repeated one; nor is one while the next number is 0, which has no number below it
   pub never : t .progress .last ≡ 0 → (r : RequestFD) (p area : List ℕ) → repeats t r p area ≡ false
   pub first-never : t .leg .next ≡ 0 → (r : RequestFD) (p area : List ℕ) → repeats t r p area ≡ false
+
+-- The claim.
+abbrev pub LastLengths : Type 0
+LastLengths = (t : Transfer) → LastLength t

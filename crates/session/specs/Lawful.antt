@@ -4,6 +4,7 @@
 -- packet's length "is above 512 or above stored"; K5: "if a running check has read the announced length or more, or runs though stored is
 -- not announced or the phase is not receiving or done". Of this the session has all but the held bytes. Assumes nothing.
 use mathlib.Core.Path.{_≡_}
+use mathlib.Core.Logic.{_↔_}
 use mathlib.Core.Bool.{Bool, true, false, cond, not, _||_}
 use mathlib.Core.List.{List}
 use Prim.Native.Nat.{ℕ, _≤_, _<_}
@@ -50,7 +51,7 @@ unlawful s =
     || (badLengths (ownTransfer s) (s .opened)
     || (badLast (ownTransfer s) || (badCheck (ownTransfer s) || badSessionFields (ownTransfer s) (s .boards) (s .count)))))
 
--- The same as propositions, one to a rule; they are proved to hold exactly where `unlawful` is false.
+-- The same as propositions, one to a rule.
 pub record Lawful (s : Session) : Type 0 where
   pub list : badList (s .boards) (s .count) ≡ false
   pub some-area : 1 ≤ s .opened
@@ -67,3 +68,7 @@ pub record Lawful (s : Session) : Type 0 where
   pub least-size : idle (ownTransfer s .leg .phase) ≡ false → minPacket ≤ ownTransfer s .leg .agreed
   pub most-size : idle (ownTransfer s .leg .phase) ≡ false → ownTransfer s .leg .agreed ≤ maxPacket
   pub some-image : hasImage (ownTransfer s .leg .phase) ≡ true → 0 < ownTransfer s .image .announced
+
+-- The claim: they say the same.
+abbrev pub LawfulMeans : Type 0
+LawfulMeans = (s : Session) → (unlawful s ≡ false) ↔ Lawful s

@@ -6,6 +6,9 @@ pub mod Lawful
 pub mod Answering
 pub mod Checking
 pub mod OneGo
+pub mod Kept
+pub mod Unanswered
+pub mod Openings
 pub mod EndRequest
 pub mod RepeatedFrame
 pub mod LastLength

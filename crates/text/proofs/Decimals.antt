@@ -8,7 +8,7 @@ use native.Mathlib.Numerals.{unary-clauses}
 use native.Mathlib.Omega.{arith}
 use lib.ListN.{length}
 use Rattle.io.specs.Digits.{digits, glyph, Fewest}
-use Rattle.text.specs.Decimals.{Decimal, digitText, decimalWithin, decimal}
+use Rattle.text.specs.Decimals.{digitText, decimalWithin, decimal, OneDecimal}
 
 -- a power of ten is above its exponent, so a number has at least as many as its digits less one
 above-exponent : (k : ℕ) → k < 10 ^ k
@@ -46,5 +46,5 @@ one-way (suc k) n w =
     let least : 1 < suc k → 10 ^ k ≤ n = simp unary-clauses at (w .2) in
     spelled k (suc n) n (fits k n least) (w .1) least
 
-pub is-the-decimal : {n : ℕ} {t : List ℕ} → Decimal n t → t ≡ decimal n
-is-the-decimal {n} {t} d = d .spells ∙ one-way (length t) n (d .fewest)
+pub is-the-decimal : OneDecimal
+is-the-decimal n t d = d .spells ∙ one-way (length t) n (d .fewest)

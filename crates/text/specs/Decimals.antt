@@ -24,3 +24,7 @@ decimalWithin (suc most) n = cond (ltb n 10) (digitText n) (decimalWithin most (
 -- n in decimal, without zeros in front: n has no more than n + 1 digits
 abbrev pub decimal : ℕ → List ℕ
 decimal n = decimalWithin (suc n) n
+
+-- The claim: there is no other.
+abbrev pub OneDecimal : Type 0
+OneDecimal = (n : ℕ) (t : List ℕ) → Decimal n t → t ≡ decimal n

@@ -4,3 +4,4 @@ pub mod Hex
 pub mod Decimals
 pub mod Numbers
 pub mod Outputs
+pub mod Examples

@@ -1,41 +1,10 @@
 -- Lines of docs/EXCHANGE.md, by computation from the definitions. Assumes nothing.
-use mathlib.Core.Path.{_≡_, refl}
-use mathlib.Core.Bool.{Bool, true, false}
-use mathlib.Core.List.{List, [], _∷_}
-use Prim.Native.Nat.{ℕ}
-use lib.ListN.{length}
+use mathlib.Core.Path.{refl}
 use Rattle.fronts.specs.Frame.{frameAt}
 use Rattle.fronts.specs.Fronts.{frontOf}
 use Rattle.frames.specs.Buffer.{wholeAt, commandAt}
-use Rattle.link.specs.declared.frame.Frame.{Frame}
-use Rattle.sender.specs.declared.decision.Decision.the-variants.{GoOn, SendAgain}
-use Rattle.text.specs.Ascii.{ascii}
 use Rattle.text.specs.Decimals.{decimalWithin}
-use Rattle.text.specs.Outputs.{asOne}
-use Rattle.transfer.specs.declared.phase.Phase.the-variants.{Done}
-use Rattle.transcript.specs.Words.{lost}
-use Rattle.transcript.specs.Lines.{goneTexts, atControllerTexts, atSenderTexts, silenceTexts, storedTexts, senderEndTexts}
-use Rattle.transcript.specs.Lines.{controllerEndTexts, areaEndTexts}
-
-abbrev frame : Bool → List ℕ → Frame
-frame to-sender bytes = record { «to_sender» = to-sender; bytes = bytes; length = length bytes }
-
--- an FE, and the reply to an FD
-abbrev request : Frame
-request = frame false (0x55 ∷ 0xAA ∷ 0x00 ∷ 0xFE ∷ 0x00 ∷ 0x01 ∷ 0x0A ∷ 0x08 ∷ [])
-
-abbrev reply : Frame
-reply = frame true (0x55 ∷ 0xAA ∷ 0x00 ∷ 0xFD ∷ 0x00 ∷ 0x02 ∷ 0x0A ∷ 0x00 ∷ 0x08 ∷ [])
-
-pub record LineExamples : Type 0 where
-  pub fed : asOne (atControllerTexts request 0) ≡ ascii "-> FE 55AA00FE00010A08 controller 0\n"
-  pub heard : asOne (atSenderTexts reply 0 GoOn) ≡ ascii "<- FD 55AA00FD00020A0008 sender 0 go on\n"
-  pub gone : asOne (goneTexts request lost) ≡ ascii "-> FE 55AA00FE00010A08 lost\n"
-  pub silent : asOne (silenceTexts 0 SendAgain) ≡ ascii "silence sender 0 send again\n"
-  pub stored : asOne (storedTexts 16 40 true) ≡ ascii "stored 16 of 40, as in the image\n"
-  pub sender-end : asOne (senderEndTexts true) ≡ ascii "sender done\n"
-  pub controller-end : asOne (controllerEndTexts Done 40 40) ≡ ascii "controller done, stored 40 of 40\n"
-  pub area-end : asOne (areaEndTexts true) ≡ ascii "area equals the image\n"
+use Rattle.transcript.specs.Examples.{LineExamples}
 
 pub line-examples : LineExamples
 unfolding commandAt wholeAt frontOf frameAt decimalWithin

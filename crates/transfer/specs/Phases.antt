@@ -1,5 +1,7 @@
 -- 01, "The record and the board list": "the phase (idle, asked, told, receiving, done)", and the sets of phases that the answers name.
 -- Assumes nothing.
+use mathlib.Core.Path.{_≡_}
+use mathlib.Core.Logic.{_↔_, _⊎_}
 use mathlib.Core.Bool.{Bool, true, false}
 use Rattle.transfer.specs.declared.phase.Phase.{Phase}
 use Rattle.transfer.specs.declared.phase.Phase.the-variants.{Idle, Asked, Told, Receiving, Done}
@@ -40,3 +42,14 @@ receivingOrDone Asked = false
 receivingOrDone Told = false
 receivingOrDone Receiving = true
 receivingOrDone Done = true
+
+-- The claim: the tests are true of the phases that they name, and of no other.
+pub record PhasesMean (p : Phase) : Type 0 where
+  pub idle : (idle p ≡ true) ↔ (p ≡ Idle)
+  pub has-image : (hasImage p ≡ true) ↔ ((p ≡ Told) ⊎ ((p ≡ Receiving) ⊎ (p ≡ Done)))
+  pub told-or-receiving : (toldOrReceiving p ≡ true) ↔ ((p ≡ Told) ⊎ (p ≡ Receiving))
+  pub receiving : (receiving p ≡ true) ↔ (p ≡ Receiving)
+  pub receiving-or-done : (receivingOrDone p ≡ true) ↔ ((p ≡ Receiving) ⊎ (p ≡ Done))
+
+abbrev pub EveryPhaseMeans : Type 0
+EveryPhaseMeans = (p : Phase) → PhasesMean p

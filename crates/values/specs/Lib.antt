@@ -3,3 +3,4 @@ pub mod Bytes
 pub mod Spans
 pub mod Words
 pub mod Fields
+pub mod Examples

@@ -20,13 +20,13 @@ verdictWord Right = ascii "right"
 verdictWord Wrong = ascii "wrong"
 
 -- "D is `none`, `go-on`, `send-again`, `new-leg`, `done` or `given-up`"
-abbrev pub decisionWord : Decision → List ℕ
-decisionWord Nothing = ascii "none"
-decisionWord GoOn = ascii "go-on"
-decisionWord SendAgain = ascii "send-again"
-decisionWord NewLeg = ascii "new-leg"
-decisionWord Done = ascii "done"
-decisionWord GivenUp = ascii "given-up"
+abbrev pub decisionTold : Decision → List ℕ
+decisionTold Nothing = ascii "none"
+decisionTold GoOn = ascii "go-on"
+decisionTold SendAgain = ascii "send-again"
+decisionTold NewLeg = ascii "new-leg"
+decisionTold Done = ascii "done"
+decisionTold GivenUp = ascii "given-up"
 
 -- "idle, asked, told, receiving, done"
 abbrev pub phaseName : Phase → List ℕ

@@ -8,7 +8,7 @@ use text::output::SIZE;
 use transfer::phase::Phase;
 ghost use mathlib.Core.Path.{_≡_};
 ghost use Rattle.text.specs.Outputs.{TextAdded};
-ghost use Rattle.values.specs.Words.{verdictWord, decisionWord, phaseName, senderPhaseName, said};
+ghost use Rattle.values.specs.Words.{verdictWord, decisionTold, phaseName, senderPhaseName, said};
 
 // The longest has ten letters.
 const LETTERS: usize = 10;
@@ -23,7 +23,7 @@ pub fn verdict(output: Output, verdict: Verdict, out: &mut [u8; SIZE]) -> Output
 }
 
 pub fn decision(output: Output, decision: Decision, out: &mut [u8; SIZE]) -> Output
-    ensures { λ r. ⌜ TextAdded output (decisionWord decision) (now (out .entry)) r (now (out .exit)) ⌝ }
+    ensures { λ r. ⌜ TextAdded output (decisionTold decision) (now (out .entry)) r (now (out .exit)) ⌝ }
 {
     put(output, of_decision(decision), out)
 }
@@ -46,7 +46,7 @@ fn of_verdict(verdict: Verdict) -> Word
 }
 
 fn of_decision(decision: Decision) -> Word
-    ensures { λ r. ⌜ said r ≡ decisionWord decision ⌝ }
+    ensures { λ r. ⌜ said r ≡ decisionTold decision ⌝ }
 {
     match decision {
         Decision::Nothing => Word(*b"none      ", 4),

@@ -58,7 +58,7 @@ module _ (w : Words) where
         «is_bad» = true;
       }
 
-  -- "image: a file .."; the word's place is kept
+  -- image, a file; the word's place is kept
   abbrev pub imageSaid : ℕ → Words
   imageSaid i =
       record {
@@ -74,7 +74,7 @@ module _ (w : Words) where
   abbrev pub withImage : ℕ → Words
   withImage i = cond (eqb (w .image) 0) (imageSaid i) notTaken
 
-  -- "channel: 10 to 19"
+  -- channel, 10 to 19
   abbrev pub channelSaid : ℕ → Words
   channelSaid n =
       record {
@@ -90,7 +90,7 @@ module _ (w : Words) where
   abbrev pub withChannel : ℕ → Words
   withChannel n = cond (w .«has_channel») notTaken (cond (eqb n noNumber) notTaken (channelSaid n))
 
-  -- "size: the sender's packet size, 16 to 65,535"
+  -- size, the sender's packet size, 16 to 65,535
   abbrev pub sizeSaid : ℕ → Words
   sizeSaid n =
       record {
@@ -106,7 +106,7 @@ module _ (w : Words) where
   abbrev pub withSize : ℕ → Words
   withSize n = cond (w .«has_size») notTaken (cond (eqb n noNumber) notTaken (sizeSaid n))
 
-  -- "link: letters p, l, r, s ..; may be empty"; the word's place is kept
+  -- link, letters p, l, r, s, perhaps none; the word's place is kept
   abbrev pub linkSaid : ℕ → Words
   linkSaid i =
       record {

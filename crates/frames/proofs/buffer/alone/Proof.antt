@@ -7,7 +7,7 @@ use Rattle.frames.proofs.buffer.alone.Tie as tie
 
 returns : tie.Need-returns
 unfolding aloneAt
-returns c = simp (sym (c .before .before .whole .ensures) ∙ c .before .if1 .taken, c .«data» .ensures)
+returns c = simp (sym (c .before .before .whole .ensures) ∙ c .before .if1 .taken, c .«data» .ensures .0)
 
 returns-2 : tie.Need-returns-2
 unfolding aloneAt

@@ -1,13 +1,14 @@
 -- `frames::buffer::data` meets its contract. Assumes nothing.
 use borrow.Author.Needs.{needs}
-use mathlib.Core.Path.{_≡_, sym, ap, _∙_}
+use mathlib.Core.Path.{_≡_, refl, sym, ap, _∙_}
 use mathlib.Core.Bool.{Bool, cond}
 use mathlib.Core.List.{List, [], append-nil}
 use Prim.Native.Nat.{ℕ, _+_, _-_, _≤_}
+use native.Mathlib.Nat.{zero-add}
 use native.Mathlib.Omega.{arith}
 use lib.ListN.{length, take, drop}
 use Rattle.fronts.specs.Frame.{headerSize, frameSize, lengthAt, frameAt}
-use Rattle.frames.specs.Buffer.{wholeAt, dataAt}
+use Rattle.frames.specs.Buffer.{wholeAt, dataAt, dataPlace}
 use Rattle.fronts.proofs.Fronts.{is-whole, whole-passed}
 use Rattle.frames.proofs.buffer.data.Statement.{statement}
 use Rattle.frames.proofs.buffer.data.Tie as tie
@@ -16,6 +17,10 @@ use Rattle.frames.proofs.buffer.data.Tie as tie
 module _ (c : tie.Then1) where
   abbrev s : List ℕ
   s = c .before .before .before .args .s .now
+
+  -- and where it stands in its memory
+  abbrev start : ℕ
+  start = c .before .before .before .args .s .ptr .1
 
   all-there : frameSize (lengthAt s) ≤ length s
   unfolding wholeAt
@@ -29,18 +34,23 @@ part-result-end : tie.Need-part-result-end
 part-result-end c = omega (arith, all-there (c .before .before), announced c)
 
 returns : tie.Need-returns
-unfolding dataAt wholeAt frameAt
+unfolding dataAt dataPlace wholeAt frameAt
 returns c =
     let o = c .before .before .before in
-    let n : headerSize + c .before .length-at .result - headerSize ≡ lengthAt (s o) = omega (arith, announced (c .before)) in
-    ap (λ (k : ℕ). take k (drop headerSize (s o))) n
-    ∙ sym (ap (λ (b : Bool). cond b (frameAt (s o) .payload) []) (sym (o .before .whole .ensures) ∙ o .if1 .taken))
+    let yes = sym (o .before .whole .ensures) ∙ o .if1 .taken in
+    let n : headerSize + c .before .length-at .result - headerSize ≡ lengthAt (s o) = omega (arith, announced (c .before)) in (
+      ap (λ (k : ℕ). take k (drop headerSize (s o))) n ∙ sym (ap (λ (b : Bool). cond b (frameAt (s o) .payload) []) yes),
+      (refl, sym (ap (λ (b : Bool). cond b headerSize 0 + start o) yes)),
+    )
 
 returns-2 : tie.Need-returns-2
-unfolding dataAt wholeAt frameAt
+unfolding dataAt dataPlace wholeAt frameAt
 returns-2 c =
-    let bytes = c .before .before .before .before .args .s .now in
-    sym (ap (λ (b : Bool). cond b (frameAt bytes .payload) []) (sym (c .before .before .whole .ensures) ∙ c .before .if1 .left))
+    let o = c .before .before .before .before .args .s in
+    let no = sym (c .before .before .whole .ensures) ∙ c .before .if1 .left in (
+      sym (ap (λ (b : Bool). cond b (frameAt (o .now) .payload) []) no),
+      (refl, sym (ap (λ (b : Bool). cond b headerSize 0 + o .ptr .1) no ∙ zero-add (o .ptr .1))),
+    )
 
 pub data-spec : {M : Type 1} → statement M
 data-spec =

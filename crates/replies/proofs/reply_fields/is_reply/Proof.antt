@@ -57,7 +57,7 @@ returns-3 c =
           ∙ c .before .before .before .before .before .before .before .if1 .taken,
       own,
       version,
-      c .before .«data» .ensures,
+      c .before .«data» .ensures .0,
       row .ensures .is,
     )
 

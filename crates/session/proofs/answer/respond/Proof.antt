@@ -34,7 +34,7 @@ returns-4 c =
     let is = c .before .before .before .before .before .before .before .before .if4 .taken in
     let a = c .before .before .before .before .before .before .before .before .before .before .before .before .before .before .args in
     let fields = c .before .before .before .before .before .before .fd .ensures in
-    let packet = c .before .before .before .before .packet .ensures in (
+    let packet = c .before .before .before .before .packet .ensures .0 in (
       rw is (c .before .before .answer4 .ensures .0 ∙ ap₂ (λ (r : RequestFD) (p : List ℕ). effectFD (a .t) r p (a .area .now) .gives)
           fields packet),
       rw is (c .before .before .answer4 .ensures .1 ∙ ap₂ (λ (r : RequestFD) (p : List ℕ). effectFD (a .t) r p (a .area .now) .area)

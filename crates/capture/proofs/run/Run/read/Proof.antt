@@ -14,6 +14,7 @@ returns c =
       starts = refl;
       within = omega arith;
       goes-on = λ e. absurd (false≢true (sym e ∙ c .if1 .taken));
+      stops = λ _. (refl, (refl, refl));
     }
 
 returns-2 : tie.Need-returns-2
@@ -25,6 +26,7 @@ returns-2 c =
       starts = refl;
       within = omega (arith, c .before .count .ensures .0 .0);
       goes-on = λ _. c .after-read .ensures .1;
+      stops = λ e. absurd (false≢true (sym (tested .if1 .left) ∙ e));
     }
 
 pub read-spec : {M : Type 1} → statement M

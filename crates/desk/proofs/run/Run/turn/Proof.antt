@@ -9,14 +9,14 @@ use Rattle.lines.specs.declared.lines.Kind.{Kind}
 use Rattle.lines.specs.declared.lines.Kind.the-variants.{Line, TooLong, Unfinished, None}
 use Rattle.lines.specs.Lines.{nextLine}
 use Rattle.desk.specs.declared.run.Run.{Run}
-use Rattle.desk.specs.Runs.{isPassedOver, LineDone, Turned}
+use Rattle.desk.specs.Runs.{isPassedOver, LineDone, SessionTurned}
 use Rattle.desk.proofs.run.Run.turn.Statement.{statement}
 use Rattle.desk.proofs.run.Run.turn.Tie as tie
 
 module _ (c : tie.Start) (r : Run) (input′ bytes′ room′ area′ image′ out′ : List ℕ) where
   abbrev Turns : Kind → Next → Type 0
   Turns k n =
-      Turned k n (c .args .«self») (c .args .input .now) (c .args .bytes .now) (c .args .room .now) (c .args .area .now) (c .args .image .now)
+      SessionTurned k n (c .args .«self») (c .args .input .now) (c .args .bytes .now) (c .args .room .now) (c .args .area .now) (c .args .image .now)
       (c .args .out .now) r input′ bytes′ room′ area′ image′ out′
 
   -- what holds of a kind holds of what comes next, which is of it

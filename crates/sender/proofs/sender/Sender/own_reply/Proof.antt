@@ -9,7 +9,7 @@ use Rattle.sender.proofs.sender.Sender.own_reply.Tie as tie
 returns : tie.Need-returns
 unfolding ownReply
 returns c =
-    let channel = c .channel .ensures ∙ ap replyChannel (c .before .«data» .ensures) in
+    let channel = c .channel .ensures ∙ ap replyChannel (c .before .«data» .ensures .0) in
     let c1 = c .before .before in
     simp (← c1 .before .before .command-of .ensures, ← c1 .before .is-reply .ensures, c1 .if1 .taken, channel)
 

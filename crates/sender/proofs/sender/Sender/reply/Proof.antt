@@ -28,7 +28,7 @@ returns-2 c =
       eq-eqb _ _ (c .before .before .before .before .if1 .left),
       ← c .before .before .before .own-reply .ensures,
       c .before .before .if2 .taken,
-      c .before .«data» .ensures,
+      c .before .«data» .ensures .0,
       c .judge .ensures,
     )
 

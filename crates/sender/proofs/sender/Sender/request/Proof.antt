@@ -1,11 +1,8 @@
 -- `sender::sender::Sender::request` meets its contract. Assumes nothing.
 use borrow.Author.Needs.{needs}
-use mathlib.Core.Path.{_≡_, sym, ap, _∙_}
+use mathlib.Core.Path.{sym, ap, _∙_}
 use Prim.Native.Nat.{ℕ}
-use Rattle.fronts.specs.Frame.{Frame}
-use Rattle.frames.specs.Finished.{frameOf}
-use Rattle.frames.specs.Buffer.{writtenSize, writtenRoom}
-use Rattle.frames.proofs.FinishedFrames.{frame-of-finished}
+use Rattle.frames.proofs.FinishedFrames.{written-as}
 use Rattle.commands.specs.Outcomes.{accepted}
 use Rattle.sender.specs.Requests.{requestOf}
 use Rattle.sender.proofs.Requests.{request-refused, request-short, request-over, request-written}
@@ -46,10 +43,9 @@ returns-4 c =
     let a = c2 .before .before .before .before .before .args in
     let e = request-written (a .self) (a .image .now) (a .room .now) ok (c2 .if2 .left) still in
     let f = requestOf (a .self) (a .image .now) in
-    let same : frameOf (frame .result) ≡ f = ap frameOf (frame .ensures) ∙ frame-of-finished f in
-    let length = w .gives ∙ ap (λ (g : Frame). writtenSize g (a .room .now)) same in (
-      ap (λ (n : ℕ). record { outcome = accepted; length = n }) length ∙ sym (e .0),
-      w .leaves ∙ ap (λ (g : Frame). writtenRoom g (a .room .now)) same ∙ sym (e .1),
+    let written = written-as f (frame .ensures) w in (
+      ap (λ (n : ℕ). record { outcome = accepted; length = n }) (written .gives) ∙ sym (e .0),
+      written .leaves ∙ sym (e .1),
     )
 
 pub request-spec : {M : Type 1} → statement M

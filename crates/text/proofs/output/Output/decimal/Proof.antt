@@ -15,7 +15,7 @@ returns c =
     let d = c .before .before .before .decimal in
     let says = is-decimal (a .n) (d .result) (d .last .1 .0) (d .ensures .0 .1) (d .ensures .1 .0) (d .ensures .1 .1) in
     let adds : List ℕ → Type 0 = λ s. TextAdded (a .self) s (a .buffer .now) (c .text .result) (c .text .last .1 .1 .0) in
-    subst adds (is-the-decimal says) (c .text .ensures)
+    subst adds (is-the-decimal _ _ says) (c .text .ensures)
 
 pub decimal-spec : {M : Type 1} → statement M
 decimal-spec = tie.close (tie.spec (λ c κs. search needs) (λ c. search needs) (λ c. search needs) (λ c κs. search needs) returns)
