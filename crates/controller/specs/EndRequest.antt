@@ -44,7 +44,7 @@ pub record NotYet (r : Record) (x : Course) : Type 0 where
   pub no-reply : x .replies ≡ []
   pub same-session : x .at .session ≡ checkingOn (r .session) (ownTransfer (x .at .session) .check)
 
--- it has: "its verdict is that of the check in one go", and so are the only reply and the session; the reply is success exactly when
+-- it has: "its verdict is that of the check in one go", and so are the one reply up to it and the session; the reply is success exactly when
 -- demand 2 says so
 pub record AsInOneGo (r : Record) (f : FinishedFrame) (channel : ℕ) (area : List ℕ) (x : Course) : Type 0 where
   pub verdict : x .verdict ≡ cond (rightCrc (ownTransfer (r .session)) area) Right Wrong

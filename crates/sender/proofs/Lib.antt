@@ -16,3 +16,4 @@ mod Pieces
 mod Exchanges
 pub mod GrantedExchanges
 pub mod SilentExchanges
+pub mod Openings
