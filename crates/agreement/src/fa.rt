@@ -40,11 +40,11 @@ fn refused(r: RequestFA, board: Board) -> bool
     true
 }
 
-fn agreed(len1: usize) -> u16
+fn agreed(len1: usize) -> usize
     ensures { result ≡ agreed_size len1 }
 {
     if len1 < MAX_PACKET {
-        return len1 as u16;
+        return len1;
     }
-    MAX_PACKET as u16
+    MAX_PACKET
 }

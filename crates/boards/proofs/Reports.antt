@@ -21,15 +21,15 @@ use Rattle.boards.specs.Boards.{max_boards, past_board}
 use Rattle.boards.specs.Report.{board_bytes, boards_bytes, report_bytes, max_report, report_frame, report_size, report_room}
 use Rattle.boards.specs.Report.{ReportsReadBack}
 
-boards-size : (bs : List Board) (n : ℕ) → length (boards_bytes bs n) ≡ 7 * n
+boards_size : (bs : List Board) (n : ℕ) → length (boards_bytes bs n) ≡ 7 * n
 unfolding boards_bytes
-boards-size bs zero = refl
-boards-size bs (suc n) = omega (arith, length-append (boards_bytes bs n) (board_bytes (get_or bs n past_board)), boards-size bs n)
+boards_size bs zero = refl
+boards_size bs (suc n) = omega (arith, length-append (boards_bytes bs n) (board_bytes (get_or bs n past_board)), boards_size bs n)
 
 -- L = 7n + 1
 pub report_length_lem : (bs : List Board) (n : ℕ) → length (report_bytes bs n) ≡ 1 + 7 * n
 unfolding report_bytes
-report_length_lem bs n = omega (arith, boards-size bs n)
+report_length_lem bs n = omega (arith, boards_size bs n)
 
 -- the count m, and n boards so far
 abbrev pub so_far : List Board → ℕ → ℕ → List ℕ
@@ -43,7 +43,7 @@ pub so_far-next : (k : ℕ) (bs : List Board) (m n : ℕ) → 1 + 7 * (n + 1) �
     → written_at (padded k (so_far bs m n)) (1 + 7 * n) (board_bytes (get_or bs n past_board)) ≡ padded k (so_far bs m (n + 1))
 unfolding boards_bytes
 so_far-next k bs m n fits =
-    let size : 1 + 7 * n ≡ length (so_far bs m n) = omega (arith, boards-size bs n) in
+    let size : 1 + 7 * n ≡ length (so_far bs m n) = omega (arith, boards_size bs n) in
     ap (λ (i : ℕ). written_at (padded k (so_far bs m n)) i (board_bytes (get_or bs n past_board))) size
     ∙ padded-more k (so_far bs m n) (board_bytes (get_or bs n past_board)) (omega arith)
     ∙ ap (λ (i : ℕ). padded k (so_far bs m i)) (sym (add-one n))

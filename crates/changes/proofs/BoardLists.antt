@@ -7,12 +7,12 @@ use Rattle.boards.specs.declared.board.Board.{Board}
 use Rattle.boards.specs.Boards.{board_at}
 use Rattle.changes.specs.BoardLists.{board_field, board_fields}
 
-pub boards-none : (before after : List Board) → [] ≡ board_fields before after 0
+pub boards_none : (before after : List Board) → [] ≡ board_fields before after 0
 unfolding board_fields
-boards-none before after = refl
+boards_none before after = refl
 
-pub boards-next : (before after : List Board) (i : ℕ) {b a : Board} → b ≡ board_at before i → a ≡ board_at after i
+pub boards_next : (before after : List Board) (i : ℕ) {b a : Board} → b ≡ board_at before i → a ≡ board_at after i
     → board_fields before after i ++ board_field i b a ≡ board_fields before after (i + 1)
 unfolding board_fields
-boards-next before after i e f =
+boards_next before after i e f =
     ap₂ (λ (x y : Board). board_fields before after i ++ board_field i x y) e f ∙ ap (board_fields before after) (sym (add-one i))

@@ -60,11 +60,9 @@ fn leg(output: Output, before: Leg, after: Leg, out: &mut [u8; SIZE]) -> Output
 {
     let was = before.phase;
     let is = after.phase;
-    let agreed = before.agreed as usize;
-    let next_agreed = after.agreed as usize;
     let told = field::phase(output, was, is, &mut *out);
     let told = field::channel(told, b" channel=", before.channel, after.channel, &mut *out);
-    let told = field::number(told, b" agreed=", agreed, next_agreed, &mut *out);
+    let told = field::number(told, b" agreed=", before.agreed, after.agreed, &mut *out);
     field::number(told, b" next=", before.next, after.next, out)
 }
 

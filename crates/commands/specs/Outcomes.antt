@@ -53,26 +53,6 @@ short_report_room = 11
 abbrev pub check_runs : ℕ
 check_runs = 12
 
--- 02, K6, of reading: "13 below 3 bytes"
-abbrev pub too_few_bytes : ℕ
-too_few_bytes = 13
-
--- 02, K6: "14 length not that of what follows"
-abbrev pub other_length : ℕ
-other_length = 14
-
--- 02, K6: "15 other version"
-abbrev pub other_version : ℕ
-other_version = 15
-
--- 02, K6: "16 a size wrong for the number of boards, a field that outcome 9 refuses or a permit neither 0 nor 1"
-abbrev pub bad_snapshot : ℕ
-bad_snapshot = 16
-
--- 02, K6, of writing: "17 for short room"
-abbrev pub short_snapshot_room : ℕ
-short_snapshot_room = 17
-
 -- 02, K5: "18 when no check runs"
 abbrev pub no_check_runs : ℕ
 no_check_runs = 18

@@ -25,16 +25,6 @@ pub const SHORT_REPORT_ROOM: u8 = 11;
 
 pub const CHECK_RUNS: u8 = 12;
 
-pub const TOO_FEW_BYTES: u8 = 13;
-
-pub const OTHER_LENGTH: u8 = 14;
-
-pub const OTHER_VERSION: u8 = 15;
-
-pub const BAD_SNAPSHOT: u8 = 16;
-
-pub const SHORT_SNAPSHOT_ROOM: u8 = 17;
-
 pub const NO_CHECK_RUNS: u8 = 18;
 
 pub const UNFINISHED: u8 = 19;

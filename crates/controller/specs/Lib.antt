@@ -3,7 +3,6 @@ pub mod Records
 pub mod Calls
 pub mod Portions
 pub mod OutwardReport
-pub mod Restart
 pub mod Leaving
 pub mod CheckCourse
 pub mod EndRequest

@@ -7,8 +7,6 @@
 // - `Record::is_checking` tells whether an end check runs; an FE starts it. `Record::portion` goes on with it by at most a given number
 //   of bytes; with the last byte come the verdict and the reply to FE.
 // - `Record::report` writes the outward F9.
-// - `Record::save` writes the record to bytes, `Record::restore` reads them after a restart, and `Record::resume` asks whether what counts
-//   as stored still stands in the area.
 //
 // No call asks anything of its caller: any record, any bytes, any room and any memory lent as the area are answered or refused.
 pub mod call;
@@ -16,4 +14,3 @@ pub mod open;
 pub mod portion;
 pub mod record;
 pub mod report;
-pub mod restart;

@@ -56,7 +56,7 @@ module _ (p : Phrase) where
       record {
         phase = phase_set p.command l.phase;
         channel = set_to p.command set_channel_at (p.first % 256) l.channel;
-        agreed = set_to p.command set_agreed_at (p.first % 65536) l.agreed;
+        agreed = set_to p.command set_agreed_at p.first l.agreed;
         next = set_to p.command set_next_at p.first l.next;
       }
 

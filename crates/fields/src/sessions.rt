@@ -80,7 +80,7 @@ fn leg_set(leg: Leg, phrase: Phrase) -> Leg
             phrase.first,
             leg.channel,
         ),
-        agreed: choice::half_word(phrase.command, table::SET_AGREED, phrase.first, leg.agreed),
+        agreed: choice::number(phrase.command, table::SET_AGREED, phrase.first, leg.agreed),
         next: choice::number(phrase.command, table::SET_NEXT, phrase.first, leg.next),
     }
 }

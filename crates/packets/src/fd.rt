@@ -134,14 +134,13 @@ fn wrong_size(t: Transfer, r: RequestFD, n: usize) -> bool
 {
     let announced = t.image.announced;
     let stored = t.progress.stored;
-    let agreed = t.leg.agreed as usize;
     if r.size != n {
         return true;
     }
     if r.size == 0 {
         return true;
     }
-    if agreed < r.size {
+    if t.leg.agreed < r.size {
         return true;
     }
     if announced < stored {

@@ -192,7 +192,7 @@ pub record PlacesNamed : Type 0 where
   pub at-portion : command_place (ascii "portion") ≡ portion_at
   pub at_report : command_place (ascii "report") ≡ report_at
   pub at_show : command_place (ascii "show") ≡ show_at
-  pub at-set-boards : command_place (ascii "set boards") ≡ set_boards_at
+  pub at_set_boards : command_place (ascii "set boards") ≡ set_boards_at
   pub at-set-board : command_place (ascii "set board") ≡ set_board_at
   pub at-set-opened : command_place (ascii "set opened") ≡ set_opened_at
   pub at-set-holding : command_place (ascii "set holding") ≡ set_holding_at

@@ -54,7 +54,7 @@ command_table =
     ∷ entry "set phase receiving" 0 0 0 0
     ∷ entry "set phase done" 0 0 0 0
     ∷ entry "set channel" 1 255 0 0
-    ∷ entry "set agreed" 1 65535 0 0
+    ∷ entry "set agreed" 1 max_number 0 0
     ∷ entry "set next" 1 max_number 0 0
     ∷ entry "set stored" 1 max_number 0 0
     ∷ entry "set image-channel" 1 255 0 0

@@ -102,7 +102,7 @@ const FIELDS: [Limits; 23] = [
     Limits(19, 0, 0, 0, 0), // set phase receiving
     Limits(14, 0, 0, 0, 0), // set phase done
     Limits(11, 1, 255, 0, 0), // set channel
-    Limits(10, 1, 65535, 0, 0), // set agreed
+    Limits(10, 1, MAX, 0, 0), // set agreed
     Limits(8, 1, MAX, 0, 0), // set next
     Limits(10, 1, MAX, 0, 0), // set stored
     Limits(17, 1, 255, 0, 0), // set image-channel

@@ -1,3 +1,5 @@
+#![tactic(auto)]
+
 // What every protocol shares, and no protocol of its own: byte strings.
 //
 // - `part`: the front of some bytes, what stands behind it, and a part in between. A part past the end is the empty one.

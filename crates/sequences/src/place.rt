@@ -1,7 +1,8 @@
 // Places in lent memory.
-ghost use Rattle.std.specs.Prelude.{◌≡◌, length, take, drop};
+ghost use Rattle.std.specs.Prelude.{◌≡◌, ◌++◌, min, length, take, drop};
 ghost use Rattle.sequences.specs.Places.{written_at};
 
+use crate::bounds::smaller;
 use crate::part::part;
 
 // Writes the bytes from place `at` on and nothing else; nothing at all where they do not fit.
@@ -15,7 +16,17 @@ pub fn write(all: &mut [u8], at: usize, bytes: &[u8])
     if all.len() - n < at {
         return;
     }
-    bytes::copy(bytes, &mut all[at..]);
+    copy(bytes, &mut all[at..]);
+}
+
+// Copies from the front of `from` to the front of `to`, as many bytes as both have, and returns how many.
+pub fn copy(from: &[u8], to: &mut [u8]) -> usize
+    ensures count { result ≡ min (length from.now) (length to.old) }
+    ensures copied { to.new ≡ take result from.now ++ drop result to.old }
+{
+    let n = smaller(from.len(), to.len());
+    to[..n].copy_from_slice(&from[..n]);
+    n
 }
 
 // Fills `out` from its front with the bytes from place `from` on, as far as there are any.

@@ -1,11 +1,10 @@
 -- The definitions that the contracts of `session` cite: 01, "The record and the board list", "How the session answers" and
--- "Outcome numbers"; document 02, K2, K5 and K6.
+-- "Outcome numbers"; document 02, K2 and K5.
 pub mod Transfers
 pub mod Opening
 pub mod Lawful
 pub mod Answering
 pub mod Checking
-pub mod Resuming
 pub mod OneGo
 pub mod Kept
 pub mod Unanswered

@@ -101,12 +101,11 @@ fn bad_session_fields(t: Transfer, boards: [Board; list::MAX_BOARDS], count: usi
     false
 }
 
-fn bad_size(agreed: u16) -> bool
+fn bad_size(agreed: usize) -> bool
     ensures { result ≡ bad_size agreed }
 {
-    let size = agreed as usize;
-    if size < MIN_PACKET {
+    if agreed < MIN_PACKET {
         return true;
     }
-    MAX_PACKET < size
+    MAX_PACKET < agreed
 }

@@ -1,5 +1,5 @@
 -- The state of a transfer, the ways in which a command or a portion of the end check changes it, and what these answer. Assumes nothing.
-use Rattle.std.specs.Prelude.{Bool, true, false, cond, not, List, ℕ, eqb}
+use Rattle.std.specs.Prelude.{Bool, true, false, not, List, ℕ, eqb}
 use Rattle.sequences.specs.Padding.{padded, zeros}
 use Rattle.image.specs.declared.check.Check.{Check}
 use Rattle.image.specs.Progresses.{progress_from}
@@ -20,7 +20,7 @@ no_leg = record { phase = Idle; channel = 0; agreed = 0; next = 0 }
 abbrev pub no_transfer : Transfer
 no_transfer = record { leg = no_leg; progress = progress_from 0; image = no_identity; check = no_check }
 
--- ---- the changes, each of one group but for `replaced` and `forgotten`
+-- ---- the changes, each of one group but for `replaced`
 
 abbrev pub in_phase : Leg → Phase → Leg
 in_phase l phase = record { phase = phase; channel = l.channel; agreed = l.agreed; next = l.next }
@@ -34,10 +34,6 @@ with_phase t phase = with_leg t (in_phase t.leg phase)
 -- the identity is another one, and "stored becomes 0": another image in FB, and a failed end check
 abbrev pub replaced : Transfer → Phase → Identity → Transfer
 replaced t phase image = record { leg = in_phase t.leg phase; progress = progress_from 0; image = image; check = t.check }
-
--- document 02, K6: "sets stored to 0 and ends a running check (fields zeroed)"; K2's length is 0 "whenever stored becomes 0"
-abbrev pub forgotten : Transfer → Transfer
-forgotten t = record { leg = t.leg; progress = progress_from 0; image = t.image; check = cond t.check.running no_check t.check }
 
 abbrev pub with_check : Transfer → Check → Transfer
 with_check t check = record { leg = t.leg; progress = t.progress; image = t.image; check = check }

@@ -1,6 +1,6 @@
 // The state of a transfer, and the few ways in which a command or a portion of the end check changes it.
 ghost use Rattle.std.specs.Prelude.{◌≡◌, true};
-ghost use Rattle.transfer.specs.Transfers.{no_leg, no_transfer, in_phase, with_leg, with_phase, replaced, forgotten, with_check, noted};
+ghost use Rattle.transfer.specs.Transfers.{no_leg, no_transfer, in_phase, with_leg, with_phase, replaced, with_check, noted};
 ghost use Rattle.transfer.specs.Transfers.{unanswered, other_channel};
 
 use crate::identity::Identity;
@@ -17,7 +17,7 @@ pub struct Leg {
     // The session's channel.
     pub channel: u8,
     // The agreed packet size.
-    pub agreed: u16,
+    pub agreed: usize,
     // The next packet's number.
     pub next: usize,
 }
@@ -142,29 +142,6 @@ impl Transfer {
         let check = self.check;
         Transfer {
             leg: leg.in_phase(phase),
-            progress: Progress::from(0),
-            image,
-            check,
-        }
-    }
-
-    // What stands in the area is not what was stored: nothing is, and a running end check ends.
-    pub fn forgotten(self) -> Transfer
-        ensures { result ≡ forgotten self }
-    {
-        let leg = self.leg;
-        let image = self.image;
-        let check = self.check;
-        if check.running {
-            return Transfer {
-                leg,
-                progress: Progress::from(0),
-                image,
-                check: Check::none(),
-            };
-        }
-        Transfer {
-            leg,
             progress: Progress::from(0),
             image,
             check,

@@ -1,5 +1,4 @@
 -- `agreement::fa::agreed` meets its contract. Assumes nothing.
-use borrow.Author.Rules.{rules}
 use borrow.Author.Tests.{lt-ltb, le-ltb}
 use Rattle.agreement.proofs.fa.agreed.Statement.{statement}
 use Rattle.agreement.proofs.fa.agreed.Tie as tie
@@ -11,4 +10,4 @@ returns-2 : tie.Need-returns-2
 returns-2 c = simp (le-ltb _ _ c.if1.false)
 
 pub agreed_spec : {M : Type 1} → statement M
-agreed_spec = tie.close (tie.spec (λ c. search rules) returns (λ c. search rules) returns-2)
+agreed_spec = tie.close (tie.spec returns returns-2)

@@ -7,7 +7,7 @@ use Rattle.boards.specs.Boards.{max_boards}
 use Rattle.text.specs.Outputs.{TextsAdded, none}
 use Rattle.text.proofs.Texts.{texts_as, ◌then◌}
 use Rattle.changes.specs.BoardLists.{board_fields}
-use Rattle.changes.proofs.BoardLists.{boards-none, boards-next}
+use Rattle.changes.proofs.BoardLists.{boards_none, boards_next}
 use Rattle.changes.proofs.list.boards.Statement.{statement}
 use Rattle.changes.proofs.list.boards.Tie as tie
 
@@ -18,14 +18,14 @@ abbrev decreases-loop : tie.decreases-loop
 decreases-loop before after out₀ told₀ i₀ out told i = max_boards - i
 
 loop-holds : tie.Need-loop-init invariant-loop decreases-loop
-loop-holds c = (search rules, texts_as (boards-none c.args.before c.args.after) none)
+loop-holds c = (search rules, texts_as (boards_none c.args.before c.args.after) none)
 
 loop-again : tie.Need-loop-preserved invariant-loop decreases-loop
 loop-again c =
     let now = c.before.before in
     let l = now.before.before.before in
     let a = l.before.args in
-    let next = boards-next a.before a.after l.loop.i now.before.board-at.ensures now.board-at2.ensures in
+    let next = boards_next a.before a.after l.loop.i now.before.board-at.ensures now.board-at2.ensures in
     (search rules, texts_as next (l.loop.invariant.1 then c.place.ensures))
 
 returns : tie.Need-returns invariant-loop decreases-loop

@@ -4,7 +4,7 @@ use Rattle.fields.proofs.sessions.leg_set.Statement.{statement}
 use Rattle.fields.proofs.sessions.leg_set.Tie as tie
 
 returns : tie.Need-returns
-returns c = simp (c.before.before.before.phase-set.ensures, ← c.before.before.byte.ensures, ← c.before.half-word.ensures, ← c.number.ensures)
+returns c = simp (c.before.before.before.phase-set.ensures, ← c.before.before.byte.ensures, ← c.before.number.ensures, ← c.number2.ensures)
 
 pub leg_set_spec : {M : Type 1} → statement M
 leg_set_spec =
