@@ -16,7 +16,7 @@ use text::output::{Output, SIZE};
 const FE_LENGTH: usize = 1;
 
 // While an end check runs, `place` is that of its end request, whose line waits for the reply.
-#[derive(Drop)]
+#[derive(Clone, Copy)]
 pub struct Account {
     // the capture's place of the first byte that is neither dropped nor of a frame that has its line
     pub place: u64,

@@ -1,3 +1,5 @@
+#![tactic(auto)]
+
 // The account of a capture, as the bench's replay gives it: where its frames stand, what was dropped, and a line for each frame.
 //
 // - `account::Account`: place, drops and the lines on their way to standard output, by value. `after` and `after_portion` tell what a call

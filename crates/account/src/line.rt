@@ -5,6 +5,7 @@ ghost use Rattle.text.specs.Hex.{hex_byte};
 ghost use Rattle.account.specs.Texts.{max_line, line_text, reply_text, FrameText, EndText, Adds, AddsDecimal};
 
 use controller::call::MIN_ROOM;
+use sequences::place;
 use text::hex;
 
 // As much as a line can take: two decimals, a command of two digits, the longest reply, three spaces and the line's end.
@@ -14,7 +15,7 @@ pub const MAX_LINE: usize = 2 * DECIMAL + 2 + 2 * MIN_ROOM + 4;
 const DECIMAL: usize = 20;
 
 // Its first `count` bytes.
-#[derive(Drop)]
+#[derive(Clone, Copy)]
 pub struct Line {
     pub bytes: [u8; MAX_LINE],
     pub count: usize,
@@ -103,7 +104,7 @@ impl Line {
     {
         let mut all = self.bytes;
         let at = self.count;
-        let n = bytes::copy(text, &mut all[at..]);
+        let n = place::copy(text, &mut all[at..]);
         Line {
             bytes: all,
             count: at + n,

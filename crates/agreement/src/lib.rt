@@ -1,3 +1,5 @@
+#![tactic(auto)]
+
 // What both ends agree on before the packets: may an image be sent and in packets of which size (FA), which image it is (FB), and from
 // where it is sent (FC).
 //

@@ -1,3 +1,5 @@
+#![tactic(auto)]
+
 // What the console answers: the lines of docs/CONSOLE.md, in parts that are put one behind the other. Each is put behind those that wait
 // for standard output, in the buffer that the caller lends.
 //

@@ -1,3 +1,5 @@
+#![tactic(auto)]
+
 // The bench's controller, as its programs open and run it (01, "Frames from the bench").
 //
 // - `open`: the fresh record of the bench's one board; `open_on`: of that board on another channel.

@@ -1,3 +1,5 @@
+#![tactic(auto)]
+
 // The boards that images can be sent to.
 //
 // - `board::Board`: one of them.

@@ -1,3 +1,5 @@
+#![tactic(auto)]
+
 // A capture of the line replayed on the bench's board, turn by turn.
 //
 // - `run::Run`: what is kept from turn to turn, by value. `start` begins, `turn` makes one call on the controller's record or one read of

@@ -1,5 +1,5 @@
 // The run over a capture, turn by turn.
-ghost use Rattle.std.specs.Prelude.{◌≡◌};
+ghost use Rattle.std.specs.Prelude.{◌≡◌, ◌≤◌, length};
 ghost use Rattle.controller.specs.Records.{is_checking};
 ghost use Rattle.capture.specs.Runs.{run_over, start_run, Follows, Quieted, ReadsOn, FeedsOrReads, portion_turn, ChecksOn, Turned};
 
@@ -9,15 +9,32 @@ use account::account::Account;
 use bench::{AREA, PORTION};
 use controller::call::{Called, MIN_ROOM};
 use controller::record::Record;
-use libc::STDIN_FILENO;
 use sequences::part::{behind, front};
+use std::io::{Read, Stdin};
 use text::output::SIZE;
 
 // The length of the input buffer: as `io::large_buffer` gives.
 pub const INPUT: usize = 65536;
 
+// What one read brought.
+#[derive(Clone, Copy)]
+struct Got {
+    count: usize,
+    failed: bool,
+}
+
+// One read of the input; one that failed brings nothing.
+fn read_into(mut stdin: Stdin, input: &mut [u8; INPUT]) -> Got
+    ensures { result.count ≤ length input.new }
+{
+    match stdin.read(input) {
+        Ok(count) => Got { count, failed: false },
+        Err(_) => Got { count: 0, failed: true },
+    }
+}
+
 // Of the input buffer the bytes from `at` to `end` are still to be fed.
-#[derive(Drop)]
+#[derive(Clone, Copy)]
 pub struct Unfed {
     pub at: usize,
     pub end: usize,
@@ -28,7 +45,7 @@ pub struct Unfed {
 // No call of a run is refused: the record is lawful from its opening on, the room is the least that is asked for, and the area is of the
 // opened length. So each call but the last one of quiet takes, drops or reads a byte, or uses up a held frame. An end check is finished
 // before the run goes on.
-#[derive(Drop)]
+#[derive(Clone, Copy)]
 pub struct Run {
     pub record: Record,
     pub stage: Stage,
@@ -71,6 +88,7 @@ impl Run {
     // One call on the record, or one read of the input.
     pub fn turn(
         self,
+        stdin: Stdin,
         input: &mut [u8; INPUT],
         output: &mut [u8; SIZE],
         area: &mut [u8; AREA],
@@ -84,7 +102,7 @@ impl Run {
         }
         let stage = self.stage;
         match stage {
-            Stage::Feeding => self.feed(input, output, area),
+            Stage::Feeding => self.feed(stdin, input, output, area),
             Stage::Quiet => self.quiet(output, area),
             Stage::Ended => self,
             Stage::ReadFailed => self,
@@ -92,13 +110,19 @@ impl Run {
     }
 
     // Feeds what is left in the input buffer, and fills it when nothing is.
-    fn feed(self, input: &mut [u8; INPUT], output: &mut [u8; SIZE], area: &mut [u8; AREA]) -> Run
+    fn feed(
+        self,
+        stdin: Stdin,
+        input: &mut [u8; INPUT],
+        output: &mut [u8; SIZE],
+        area: &mut [u8; AREA],
+    ) -> Run
         ensures { FeedsOrReads self input.old output.old area.old result input.new
             output.new area.new }
     {
         let left = behind(front(input, self.unfed.end), self.unfed.at);
         if left.len() == 0 {
-            return self.read(input, output);
+            return self.read(stdin, input, output);
         }
         let mut room = [0u8; MIN_ROOM];
         let record = self.record;
@@ -107,7 +131,7 @@ impl Run {
     }
 
     // The lines go out first: a read may wait long, and who reads them should not wait with it.
-    fn read(self, input: &mut [u8; INPUT], output: &[u8; SIZE]) -> Run
+    fn read(self, stdin: Stdin, input: &mut [u8; INPUT], output: &[u8; SIZE]) -> Run
         ensures { ReadsOn self input.old result input.new }
     {
         let record = self.record;
@@ -120,11 +144,11 @@ impl Run {
                 account,
             };
         }
-        let got = libc::read(STDIN_FILENO, input);
-        let end = io::count(got, input);
+        let got = read_into(stdin, input);
+        let end = got.count;
         Run {
             record,
-            stage: stage::after_read(got < 0, end),
+            stage: stage::after_read(got.failed, end),
             unfed: Unfed { at: 0, end },
             account,
         }

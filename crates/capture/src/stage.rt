@@ -5,7 +5,7 @@ ghost use Rattle.capture.specs.Stages.{stage_quiet, stage_read, AfterRead};
 use controller::record::Record;
 
 // It feeds what it reads; after the last byte it tells quiet until nothing is held.
-#[derive(Drop)]
+#[derive(Clone, Copy)]
 pub enum Stage {
     Feeding,
     Quiet,

@@ -9,7 +9,7 @@ use link::script;
 use link::script::Script;
 use text::output::{Output, SIZE};
 
-#[derive(Drop)]
+#[derive(Clone, Copy)]
 pub struct Carrier {
     pub link: Link,
     pub script: Script,

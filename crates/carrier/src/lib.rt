@@ -1,3 +1,5 @@
+#![tactic(auto)]
+
 // Frames carried between the two ends of the bench's link, as docs/EXCHANGE.md has it.
 //
 // - `carrier::Carrier`: the frames under way, what is left of the script, and the lines about the frames, by value. `send` does with a

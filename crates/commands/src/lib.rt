@@ -1,3 +1,5 @@
+#![tactic(auto)]
+
 // The six commands of the firmware service, and the numbers that both of its ends share.
 //
 // - `table`: ONE constant with the version byte and the data length of each command in both directions, and what it says of a header.

@@ -15,7 +15,7 @@ pub const FD: u8 = 0xFD;
 pub const FE: u8 = 0xFE;
 
 // A command: the version byte and the least and greatest data length from the module, and those of the reply (length 0: none).
-#[derive(Drop)]
+#[derive(Clone, Copy)]
 pub struct Row {
     pub command: u8,
     pub version: u8,
@@ -78,7 +78,7 @@ pub const TABLE: [Row; COUNT] = [
     },
 ];
 
-#[derive(Drop)]
+#[derive(Clone, Copy)]
 pub enum Header {
     // The command is not in the table.
     Unlisted,

@@ -1,3 +1,5 @@
+#![tactic(auto)]
+
 // Makes every call of both ends by hand: reads one command a line on standard input, and answers each with one line: the outcome, the
 // call's numbers, the reply, and what changed. So
 //
@@ -15,12 +17,15 @@
 // a Rattle program has no other.
 use desk::desk::{IMAGE, MEMORY};
 use desk::run::Run;
-use libc::STDERR_FILENO;
 use lines::lines::INPUT;
 use phrases::phrase::BYTES;
+use std::io::Stdin;
 use text::output::SIZE;
 
-fn main() {
+// Standard error's descriptor.
+const STDERR: i32 = 2;
+
+fn main(rt: HostRuntime) {
     let mut input = io::large_buffer();
     let mut bytes = io::large_buffer();
     let mut room = io::large_buffer();
@@ -30,6 +35,7 @@ fn main() {
     let mut kept_area = io::large_buffer();
     let mut out = io::large_buffer();
     let run = session(
+        rt.stdin(),
         &mut input,
         &mut bytes,
         &mut room,
@@ -45,6 +51,7 @@ fn main() {
 // Turns until the session is over. A proved loop has to end, and nothing says that the input does: the turns are counted down from a
 // number that no session uses up.
 fn session(
+    stdin: Stdin,
     input: &mut [u8; INPUT],
     bytes: &mut [u8; BYTES],
     room: &mut [u8; MEMORY],
@@ -61,6 +68,7 @@ fn session(
             return run;
         }
         run = run.turn(
+            stdin,
             &mut *input,
             &mut *bytes,
             &mut *room,
@@ -89,5 +97,5 @@ fn finish(run: Run, out: &[u8; SIZE]) {
 
 // Where standard error fails too there is nobody to tell.
 fn complain(message: &[u8]) {
-    io::write_all(STDERR_FILENO, message);
+    io::write_all(STDERR, message);
 }

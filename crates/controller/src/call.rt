@@ -14,7 +14,7 @@ use session::session::Session;
 pub const MIN_ROOM: usize = OVERHEAD + MAX_REPLY;
 
 // What a call gives. The reply is the first `reply_length` bytes of the room; `command` and `data_length` are the frame's.
-#[derive(Drop)]
+#[derive(Clone, Copy)]
 pub struct Called {
     pub outcome: u8,
     pub reply_length: usize,

@@ -1,3 +1,5 @@
+#![tactic(auto)]
+
 // The controller's side of the firmware service: the record, and the calls on it.
 //
 // - `record::Record` is everything that is kept between calls, by value: the reader with its held bytes, and the session.

@@ -10,7 +10,7 @@ use fronts::MAX_FRAME;
 use session::session::Session;
 
 // What opening gives. A refused opening hands back the all-zero record.
-#[derive(Drop)]
+#[derive(Clone, Copy)]
 pub struct Opened {
     pub outcome: u8,
     pub next: Record,

@@ -10,7 +10,7 @@ use session::check::Checked;
 
 // What a portion call gives; `count` is how many bytes of the image it read. With a verdict comes the reply to FE, the first
 // `reply_length` bytes of the room.
-#[derive(Drop)]
+#[derive(Clone, Copy)]
 pub struct Portioned {
     pub outcome: u8,
     pub reply_length: usize,

@@ -6,7 +6,7 @@ use frames::reader::Reader;
 use fronts::MAX_FRAME;
 use session::session::Session;
 
-#[derive(Drop)]
+#[derive(Clone, Copy)]
 pub struct Record {
     pub reader: Reader,
     pub session: Session,

@@ -6,7 +6,7 @@ use boards::report;
 use boards::report::{BOARD_SIZE, REPORT_OVERHEAD};
 use commands::outcome;
 
-#[derive(Drop)]
+#[derive(Clone, Copy)]
 pub struct Reported {
     pub outcome: u8,
     pub length: usize,

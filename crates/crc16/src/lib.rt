@@ -1,3 +1,5 @@
+#![tactic(auto)]
+
 // CRC-16 of a slice of bytes, in two kinds: `modbus` checks a packet, `ccitt` is the second maker's.
 //
 // What a CRC is stands in specs/Crc.antt of the crate `crc`; each function here is equal to that definition on every slice. A long message

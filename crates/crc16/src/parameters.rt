@@ -2,7 +2,7 @@
 use slicing16::register::Kind16;
 
 // Besides what `Kind16` has, the offsets of a multiple of its polynomial, the farthest of them again as `far`.
-#[derive(Drop)]
+#[derive(Clone, Copy)]
 pub(crate) struct Parameters {
     pub kind: Kind16,
     pub offsets: [usize; 3],

@@ -1,3 +1,5 @@
+#![tactic(auto)]
+
 // CRC-32 of a slice of bytes: a long message is folded to a few bytes with the same register (`fold`), these go by tables, sixteen at a
 // time (the crate `slicing32`).
 //

@@ -25,7 +25,7 @@ pub const MEMORY: usize = 65536;
 // The image's: a byte more than the longest area.
 pub const IMAGE: usize = 1048577;
 
-#[derive(Drop)]
+#[derive(Clone, Copy)]
 pub struct Desk {
     // The boards to open the record with.
     pub list: [Board; MAX_BOARDS],

@@ -1,3 +1,5 @@
+#![tactic(auto)]
+
 // The console's desk: both ends' records, how much of the lent memories their calls get, and what each command does.
 //
 // - `desk::Desk`: what is kept from command to command, by value. `Desk::obey` does what a phrase says and tells it, on one line.

@@ -8,9 +8,10 @@ use lines::lines::{INPUT, Kind, Lines};
 use phrases::phrase;
 use phrases::phrase::BYTES;
 use sequences::part::part;
+use std::io::Stdin;
 use text::output::SIZE;
 
-#[derive(Drop)]
+#[derive(Clone, Copy)]
 pub struct Run {
     pub lines: Lines,
     pub desk: Desk,
@@ -33,6 +34,7 @@ impl Run {
     // One line, or one read of the input.
     pub fn turn(
         self,
+        stdin: Stdin,
         input: &mut [u8; INPUT],
         bytes: &mut [u8; BYTES],
         room: &mut [u8; MEMORY],
@@ -56,7 +58,7 @@ impl Run {
                 self.obey(after, line, bytes, room, area, image, kept, kept_area, out)
             }
             Kind::TooLong => self.pass(after, out),
-            Kind::Unfinished => self.read(after, input, out),
+            Kind::Unfinished => self.read(stdin, after, input, out),
             Kind::None => self.end(after),
         }
     }
@@ -109,7 +111,13 @@ impl Run {
 
     // The lines go out first: a read may wait long, and who reads them should not wait with it. A failed read ends the session; what of a
     // line has come by then is no line.
-    fn read(mut self, lines: Lines, input: &mut [u8; INPUT], out: &[u8; SIZE]) -> Run
+    fn read(
+        mut self,
+        stdin: Stdin,
+        lines: Lines,
+        input: &mut [u8; INPUT],
+        out: &[u8; SIZE],
+    ) -> Run
         ensures { InputRead self «lines» input.old result input.new }
     {
         let old = self.desk;
@@ -118,7 +126,7 @@ impl Run {
         if desk.output.failed {
             return self.end(lines);
         }
-        let after = lines.read(input);
+        let after = lines.read(stdin, input);
         self.lines = after;
         self.is_over = after.failed;
         self

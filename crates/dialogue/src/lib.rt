@@ -1,3 +1,5 @@
+#![tactic(auto)]
+
 // Both ends of the firmware service over the bench's link, as docs/EXCHANGE.md has it.
 //
 // - `run::Run`: what is kept from turn to turn, by value. `start` and `request` begin, `turn` goes on until `is_over`, `end` tells the

@@ -22,7 +22,7 @@ use sequences::part::begins;
 use text::output::{Output, SIZE};
 
 // What is kept from turn to turn.
-#[derive(Drop)]
+#[derive(Clone, Copy)]
 pub struct Run {
     pub sender: Sender,
     pub record: Record,

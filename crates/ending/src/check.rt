@@ -11,7 +11,7 @@ use transfer::phase::Phase;
 use transfer::state::{Step, Transfer};
 
 // What a portion makes of a transfer, and how many bytes it read.
-#[derive(Drop)]
+#[derive(Clone, Copy)]
 pub struct CheckStep {
     pub count: usize,
     pub verdict: Verdict,

@@ -1,3 +1,5 @@
+#![tactic(auto)]
+
 // The end of a transfer: the end request (FE) and the check that it starts.
 //
 // - `fe::answer` takes a transfer by value and the request's channel, and hands back a `Step`.

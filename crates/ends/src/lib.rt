@@ -1,3 +1,5 @@
+#![tactic(auto)]
+
 // The two ends of the bench's link: the sender opened, and both called with the frames of the link.
 //
 // - `open_sender`: a sender of an image to the bench's board, which `bench::open_on` opens.
@@ -19,6 +21,7 @@ use link::frame::Frame;
 use sender::decision::Decided;
 use sender::sender::Sender;
 use sequences::part::front;
+use sequences::place;
 
 // A sender of this image to the bench's board on that channel. Opening refuses no size from 16 on and no image that has a byte and fits.
 pub fn open_sender(channel: u8, size: u16, image: &[u8]) -> Sender
@@ -46,7 +49,7 @@ pub fn reply(room: [u8; MIN_ROOM], length: usize) -> Frame
     ensures { result ≡ reply_sent room length }
 {
     let mut bytes = [0u8; MAX_FRAME];
-    bytes::copy(&room, &mut bytes);
+    place::copy(&room, &mut bytes);
     Frame {
         to_sender: true,
         bytes,

@@ -1,7 +1,8 @@
 // The program's arguments, read as its words.
-ghost use Rattle.std.specs.Prelude.{◌≡◌, length};
+ghost use Rattle.std.specs.Prelude.{◌≡◌, ◌≤◌, length};
 ghost use Rattle.words.specs.Ranges.{InRange};
 
+use std::env::{Env, FillError};
 use words::words::Words;
 
 // The longest word that Linux passes to a program has a byte less.
@@ -15,29 +16,35 @@ pub(crate) fn room() -> [u8; MAX_WORD]
 }
 
 // Reads the words, each into the room, up to the first that is not taken.
-pub(crate) fn read(word: &mut [u8]) -> Words
+pub(crate) fn read(rt: &HostRuntime, word: &mut [u8]) -> Words
     ensures { InRange result }
 {
     let mut words = Words::none();
-    let count = os::arg_count();
-    let mut i = 1;
-    while i < count {
-        words = with_argument(words, i, &mut *word);
+    for i in 1..usize::MAX {
+        match rt.arg(i, word) {
+            Ok(n) => {
+                words = words.with_word(i, &word[..n]);
+            }
+            Err(FillError::NotPresent) => {
+                return words;
+            }
+            Err(FillError::TooLong) => {
+                words = words.refused(b"a word has at most 131072 bytes", &word[..0]);
+            }
+        }
         if words.is_bad {
             return words;
         }
-        i += 1;
     }
     words
 }
 
-// With the argument at place i.
-fn with_argument(words: Words, i: usize, word: &mut [u8]) -> Words
-    ensures { InRange words → InRange result }
+// Puts the argument at place i to the front of the room and answers its length, 0 where it is missing or too long.
+pub(crate) fn argument(rt: &HostRuntime, i: usize, word: &mut [u8]) -> usize
+    ensures { result ≤ length word.new }
 {
-    let n = os::arg(i, word);
-    if os::errno() != 0 {
-        return words.refused(b"a word has at most 131072 bytes", word);
+    match rt.arg(i, word) {
+        Ok(n) => n,
+        Err(_) => 0,
     }
-    words.with_word(i, &word[..n])
 }

@@ -1,3 +1,5 @@
+#![tactic(auto)]
+
 // Runs both ends of the firmware service in one process over a simulated link, and writes every frame.
 //
 //     exchange [image=FILE] [channel=N] [size=N] [link=SCRIPT]
@@ -46,18 +48,18 @@ use text::output::SIZE;
 use words::complaint::say;
 use words::words::Words;
 
-fn main() {
+fn main(rt: HostRuntime) {
     let mut word = arguments::room();
-    let words = arguments::read(&mut word);
+    let words = arguments::read(&rt, &mut word);
     if words.is_bad {
         return;
     }
     let mut bytes = io::large_buffer();
-    let length = image_file::load(words.image, &mut word, &mut bytes);
+    let length = image_file::load(&rt, words.image, &mut word, &mut bytes);
     if length == 0 {
         return;
     }
-    let script = letters::script(words.link, &mut word);
+    let script = letters::script(&rt, words.link, &mut word);
     exchange(words, script, &bytes, length, &word);
 }
 

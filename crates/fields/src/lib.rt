@@ -1,3 +1,5 @@
+#![tactic(auto)]
+
 // Fields of both ends' records, set to any value by a phrase of the console.
 //
 // - `records::set` for the controller's record, `senders::set` for the sender's: the field that the phrase names, and no other.

@@ -1,3 +1,5 @@
+#![tactic(auto)]
+
 // Messages folded over a multiple of a CRC's polynomial that has few terms: the functions that only touch bytes.
 //
 // What sweeping is stands in specs/Folding.antt of the crate `crc`, with the laws that carry a register through it; docs/CHECKSUMS.md has

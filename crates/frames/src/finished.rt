@@ -9,7 +9,7 @@ use fronts::MAX_DATA;
 use sequences::place;
 
 // The first `length` of `bytes` are its data; a frame that live reading finished has zeros after them.
-#[derive(Drop)]
+#[derive(Clone, Copy)]
 pub struct FinishedFrame {
     pub version: u8,
     pub command: u8,

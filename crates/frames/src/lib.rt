@@ -1,3 +1,5 @@
+#![tactic(auto)]
+
 // Frames: bytes on the line to frames and back.
 //
 // - `buffer::whole` and `buffer::data` read a frame in a whole buffer, without a copy.

@@ -3,7 +3,7 @@ use crate::finished::FinishedFrame;
 use fronts::MAX_FRAME;
 
 // The first `count` of `held` are the held bytes.
-#[derive(Drop)]
+#[derive(Clone, Copy)]
 pub struct Reader {
     pub held: [u8; MAX_FRAME],
     pub count: usize,
@@ -11,7 +11,7 @@ pub struct Reader {
 
 // What a call hands back: the reader, advanced; how many new bytes it took and how many bytes it dropped; and the frame that it
 // ended at. Without one `frame` is all zero.
-#[derive(Drop)]
+#[derive(Clone, Copy)]
 pub struct Fed {
     pub next: Reader,
     pub taken: usize,

@@ -10,7 +10,7 @@ use fronts::front::{Front, front_at, missing};
 use sequences::bounds::{larger, smaller};
 
 // Where a call stops, and whether a whole frame stands there.
-#[derive(Drop)]
+#[derive(Clone, Copy)]
 pub struct Scan {
     pub from: usize,
     pub to: usize,

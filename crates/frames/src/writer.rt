@@ -6,6 +6,7 @@ ghost use Rattle.frames.specs.Buffer.{Written};
 
 use fronts::sum::sum;
 use fronts::{MAX_DATA, OVERHEAD, header};
+use sequences::place;
 
 // Writes the frame of version, command and data to the front of room and gives its size; bytes past it stay. Where the data is too
 // long for a frame, or the room too short for this one, it gives 0 and writes nothing.
@@ -23,7 +24,7 @@ pub fn write(version: u8, command: u8, data: &[u8], room: &mut [u8]) -> usize
     }
     write_header(version, command, n, &mut *room);
     let last = header::SIZE + n;
-    bytes::copy(data, &mut room[header::SIZE..last]);
+    place::copy(data, &mut room[header::SIZE..last]);
     room[last] = sum(&room[..last]);
     size
 }

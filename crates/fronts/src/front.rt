@@ -11,7 +11,7 @@ use crate::{MAX_DATA, OVERHEAD, header};
 use sequences::bounds::{past, smaller};
 use sequences::number::number16;
 
-#[derive(Drop)]
+#[derive(Clone, Copy)]
 pub enum Front {
     // A whole frame begins at the first byte; bytes may follow it.
     Whole,

@@ -1,3 +1,5 @@
+#![tactic(auto)]
+
 // What stands at the front of some bytes: the first maker's frame, told by its bytes. Version and command may be anything at this level.
 //
 //     55 AA, version, command, L (two bytes, high byte first), L data bytes (0 to 519), sum of all bytes before it modulo 256

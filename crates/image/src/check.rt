@@ -5,7 +5,7 @@ ghost use Rattle.image.specs.Checks.{no_check, started_check, portion_size, read
 use sequences::bounds::past;
 use sequences::part::between;
 
-#[derive(Drop)]
+#[derive(Clone, Copy)]
 pub struct Check {
     pub running: bool,
     // How many bytes of the image it has read.
@@ -14,7 +14,7 @@ pub struct Check {
     pub register: u32,
 }
 
-#[derive(Drop)]
+#[derive(Clone, Copy)]
 pub enum Verdict {
     Unfinished,
     Right,
@@ -22,7 +22,7 @@ pub enum Verdict {
 }
 
 // What a portion makes of a check, and how many bytes it read.
-#[derive(Drop)]
+#[derive(Clone, Copy)]
 pub struct Portion {
     pub count: usize,
     pub verdict: Verdict,

@@ -1,3 +1,5 @@
+#![tactic(auto)]
+
 // The image in its area, whatever protocol brings it: how much of it is stored, and whether what stands there is the announced one.
 //
 // - `progress::Progress`: how many bytes are stored, and the packet taken last. `store` writes the next bytes and counts them, both or

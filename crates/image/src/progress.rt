@@ -9,7 +9,7 @@ use sequences::compare::same;
 use sequences::part::{front, part};
 use sequences::place;
 
-#[derive(Drop)]
+#[derive(Clone, Copy)]
 pub struct Progress {
     // How many bytes of the image stand at the front of the area.
     pub stored: usize,

@@ -1,8 +1,7 @@
 -- docs/CONSOLE.md, "Lines": "A line ends with a newline; the last one may do without. It has at most 65,535 bytes." Which bytes a read
 -- brings no definition can say. Assumes nothing.
-use Rattle.std.specs.Prelude.{◌≡◌, ℕ, ◌+◌, ◌%◌, ◌^◌, ◌<◌, ◌≤◌, Bool, true, false, cond, ◌⊎◌, List, [], ◌∷◌, ◌++◌, length, take, ◌==◌, ◌≢◌, nat_lt, slice_index}
+use Rattle.std.specs.Prelude.{◌≡◌, ℕ, ◌+◌, ◌%◌, ◌^◌, ◌<◌, ◌≤◌, Bool, true, false, cond, ◌⊎◌, List, [], ◌∷◌, ◌++◌, suc, length, take, ◌==◌, ◌≢◌, nat_lt, slice_index}
 use Rattle.std.proofs.Math.Seq.{slice}
-use Rattle.bytes.specs.Bytes.{index_of}
 use Rattle.lines.specs.declared.lines.Lines.{Lines}
 use Rattle.lines.specs.declared.lines.Next.{Next}
 use Rattle.lines.specs.declared.lines.Kind.{Kind}
@@ -22,6 +21,16 @@ wrapped_sum a b = (a + b) % 2 ^ 64
 -- nothing is read yet
 abbrev pub no_lines : Lines
 no_lines = record { at = 0; end = 0; number = 0; is_passing = false; is_over = false; failed = false }
+
+-- one place further, unless the first byte is the one that is sought
+unfoldable pub index_after : Bool → ℕ → ℕ
+index_after true k = 0
+index_after false k = suc k
+
+-- the place of the first such byte; the length where there is none
+unfoldable pub index_of : ℕ → List ℕ → ℕ
+index_of b [] = 0
+index_of b (x ∷ s) = index_after (x == b) (index_of b s)
 
 -- how many bytes stand before the first newline; all of them where there is none
 abbrev pub line_in : List ℕ → ℕ

@@ -1,3 +1,5 @@
+#![tactic(auto)]
+
 // Standard input, line by line.
 //
 // - `lines::Lines`: what is kept between lines, by value. `next` tells the next line, as a part of the input buffer, or that one is too

@@ -4,14 +4,14 @@ ghost use Rattle.std.proofs.Math.Seq.{slice};
 ghost use Rattle.lines.specs.Lines.{wrapped_sum, no_lines, line_in, next_line, line_ended, last_line, more_wanted, passed_over, line_told};
 ghost use Rattle.lines.specs.Lines.{without_line, ToFront, GotWithin, GotBehind, ReadOn};
 
-use libc::STDIN_FILENO;
 use sequences::part::between;
 use sequences::place;
+use std::io::{Read, Stdin};
 
 // The length of the input buffer: as `io::large_buffer` gives.
 pub const INPUT: usize = 65536;
 
-#[derive(Drop)]
+#[derive(Clone, Copy)]
 pub struct Lines {
     // Of the buffer the bytes from `at` to `end` belong to lines that are not told yet.
     pub at: usize,
@@ -26,7 +26,7 @@ pub struct Lines {
     pub failed: bool,
 }
 
-#[derive(Drop)]
+#[derive(Clone, Copy)]
 pub enum Kind {
     // The next line stands in the buffer.
     Line,
@@ -39,7 +39,7 @@ pub enum Kind {
 }
 
 // A line has so many bytes of the buffer, beginning at `from`; where none is told both are 0.
-#[derive(Drop)]
+#[derive(Clone, Copy)]
 pub struct Next {
     pub kind: Kind,
     pub from: usize,
@@ -153,11 +153,11 @@ impl Lines {
     }
 
     // Reads on behind the bytes that are not told yet, which go to the buffer's front.
-    pub fn read(mut self, input: &mut [u8; INPUT]) -> Lines
+    pub fn read(mut self, stdin: Stdin, input: &mut [u8; INPUT]) -> Lines
         ensures { ReadOn self input.old result input.new }
     {
         let kept = to_front(self.at, self.end, &mut *input);
-        let got = read_behind(kept, input);
+        let got = read_behind(stdin, kept, input);
         self.at = 0;
         self.end = kept + got.count;
         self.is_over = got.count == 0;
@@ -166,33 +166,26 @@ impl Lines {
     }
 }
 
-#[derive(Drop)]
+#[derive(Clone, Copy)]
 struct Got {
     count: usize,
     failed: bool,
 }
 
 // One read, to behind the first `kept` bytes.
-fn read_behind(kept: usize, all: &mut [u8]) -> Got
+fn read_behind(stdin: Stdin, kept: usize, all: &mut [u8]) -> Got
     requires { kept ≤ length all.old }
     ensures { GotBehind kept all.old result.count result.failed all.new }
 {
-    read_into(&mut all[kept..])
+    read_into(stdin, &mut all[kept..])
 }
 
-fn read_into(rest: &mut [u8]) -> Got
+fn read_into(mut stdin: Stdin, rest: &mut [u8]) -> Got
     ensures { GotWithin (length rest.old) result.count result.failed }
 {
-    let got = libc::read(STDIN_FILENO, rest);
-    if got < 0 {
-        return Got {
-            count: 0,
-            failed: true,
-        };
-    }
-    Got {
-        count: io::count(got, rest),
-        failed: false,
+    match stdin.read(rest) {
+        Ok(count) => Got { count, failed: false },
+        Err(_) => Got { count: 0, failed: true },
     }
 }
 
@@ -222,5 +215,10 @@ fn plus(a: usize, b: usize) -> usize
 fn line_in(s: &[u8]) -> usize
     ensures { result ≡ line_in s.now }
 {
-    bytes::scan::find(s, 0, s.len(), b'\n')
+    for (i, b) in s.iter().enumerate() {
+        if *b == b'\n' {
+            return i;
+        }
+    }
+    s.len()
 }

@@ -4,7 +4,7 @@
 pub const SIZE: usize = 526;
 
 // Its first `length` bytes.
-#[derive(Drop)]
+#[derive(Clone, Copy)]
 pub struct Frame {
     // Else it goes to the controller.
     pub to_sender: bool,

@@ -1,3 +1,5 @@
+#![tactic(auto)]
+
 // A simulated link between the two ends, for the bench: docs/EXCHANGE.md has its rules.
 //
 // - `frame::Frame`: a frame by value, with the way that it goes.

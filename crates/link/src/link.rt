@@ -13,7 +13,7 @@ pub const PLACES: usize = 64;
 pub const MEMORY: usize = 65536;
 
 // The frames stand from place `first` on; after the last place comes the first.
-#[derive(Drop)]
+#[derive(Clone, Copy)]
 pub struct Link {
     pub first: usize,
     pub count: usize,

@@ -15,7 +15,7 @@ pub const SILENCE: u8 = b's';
 pub const NONE: u8 = 0;
 
 // The letters from `at` to `end` of the word are not used up.
-#[derive(Drop)]
+#[derive(Clone, Copy)]
 pub struct Script {
     pub at: usize,
     pub end: usize,

@@ -1,3 +1,5 @@
+#![tactic(auto)]
+
 // A line of the program `console` read as a command: docs/CONSOLE.md, "Lines", "Commands" and "Bad lines". How long a line may be,
 // comments and empty lines, and where the bytes go, are the caller's.
 //

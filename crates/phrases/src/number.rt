@@ -10,7 +10,7 @@ use sequences::part::{behind, front};
 const MOST_DIGITS: usize = 20;
 
 // What a number at the front of some bytes says, and where it ends.
-#[derive(Drop)]
+#[derive(Clone, Copy)]
 pub struct Number {
     pub is_bad: bool,
     pub value: usize,

@@ -7,7 +7,7 @@ use crate::spaces::{spaces, spaces_end};
 use sequences::part::behind;
 
 // How many there are; 0 where something else stands there.
-#[derive(Drop)]
+#[derive(Clone, Copy)]
 pub struct Pairs {
     pub is_bad: bool,
     pub count: usize,

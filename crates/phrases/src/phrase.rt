@@ -17,7 +17,7 @@ use sequences::part::behind;
 pub const BYTES: usize = 65536;
 
 // What is the trouble with a line: the messages of docs/CONSOLE.md, in their order.
-#[derive(Drop)]
+#[derive(Clone, Copy)]
 pub enum Trouble {
     Fine,
     Unknown,
@@ -30,7 +30,7 @@ pub enum Trouble {
 
 // The command's place in the table, its numbers, and how many bytes it gives. A number that the command does not take is 0. Where there is
 // trouble all but the place is 0, and the place is the table's length where the command is unknown.
-#[derive(Drop)]
+#[derive(Clone, Copy)]
 pub struct Phrase {
     pub command: usize,
     pub first: usize,

@@ -69,7 +69,7 @@ const NAMES: [u8; ROWS * NAME] = *b"room                     \
     sender set legs          ";
 
 // The name's length; how many numbers, and the most of each; how many bytes.
-#[derive(Drop)]
+#[derive(Clone, Copy)]
 pub struct Limits(pub usize, pub usize, pub usize, pub usize, pub usize);
 
 // From `room` to `show`.

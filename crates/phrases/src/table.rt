@@ -10,7 +10,7 @@ pub const ROWS: usize = 58;
 
 // A command: its name, filled up with spaces, and the name's length; how many numbers it takes, and the most that each can be; how many
 // bytes (0: none).
-#[derive(Drop)]
+#[derive(Clone, Copy)]
 pub struct Row(
     pub [u8; NAME],
     pub usize,

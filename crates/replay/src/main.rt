@@ -1,3 +1,5 @@
+#![tactic(auto)]
+
 // Replays a capture of the line: reads it on standard input, and writes what the bench's controller makes of it.
 //
 // A line for each frame: the place of its first byte in the capture, its command, the outcome, and the reply or `-`. A last line with
@@ -16,20 +18,28 @@ ghost use Rattle.capture.specs.Stages.{read_failed};
 use bench::AREA;
 use capture::run::{INPUT, Run};
 use capture::stage::Stage;
-use libc::STDERR_FILENO;
+use std::io::Stdin;
 use text::output::SIZE;
 
-fn main() {
+// Standard error's descriptor.
+const STDERR: i32 = 2;
+
+fn main(rt: HostRuntime) {
     let mut area = io::large_buffer();
     let mut input = io::large_buffer();
     let mut output = io::large_buffer();
-    let run = replay(&mut input, &mut output, &mut area);
+    let run = replay(rt.stdin(), &mut input, &mut output, &mut area);
     report(run, &mut output);
 }
 
 // Turns until the run is over. A proved loop has to end, and nothing says that the input does: the turns are counted down from a
 // number that no run uses up.
-fn replay(input: &mut [u8; INPUT], output: &mut [u8; SIZE], area: &mut [u8; AREA]) -> Run
+fn replay(
+    stdin: Stdin,
+    input: &mut [u8; INPUT],
+    output: &mut [u8; SIZE],
+    area: &mut [u8; AREA],
+) -> Run
     ensures { Replayed
         (record { run = start_run fresh; input = input.old; output = output.old; area = area.old })
         (record { run = result; input = input.new; output = output.new; area = area.new }) }
@@ -40,7 +50,7 @@ fn replay(input: &mut [u8; INPUT], output: &mut [u8; SIZE], area: &mut [u8; AREA
         if run.is_over() {
             return run;
         }
-        run = run.turn(&mut *input, &mut *output, &mut *area);
+        run = run.turn(stdin, &mut *input, &mut *output, &mut *area);
         turns -= 1;
     }
     run
@@ -73,5 +83,5 @@ fn read_failed(stage: Stage) -> bool
 
 // Where standard error fails too there is nobody to tell.
 fn complain(message: &[u8]) {
-    io::write_all(STDERR_FILENO, message);
+    io::write_all(STDERR, message);
 }

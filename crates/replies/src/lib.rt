@@ -1,3 +1,5 @@
+#![tactic(auto)]
+
 // The replies of the controller: no state.
 //
 // - `reply`: a reply's data, and its writing as a frame, as the controller does. Version byte and length are the table's.

@@ -8,7 +8,7 @@ use frames::buffer;
 use sequences::number::{number16, number32};
 
 // FA: may the image be sent (flag 0), in packets of at most `len2` bytes?
-#[derive(Drop)]
+#[derive(Clone, Copy)]
 pub struct ReplyFA {
     pub channel: u8,
     pub flag: u8,
@@ -16,7 +16,7 @@ pub struct ReplyFA {
 }
 
 // FB: is the image wanted (state 0), how much of it is stored, and what is the CRC-32 of that?
-#[derive(Drop)]
+#[derive(Clone, Copy)]
 pub struct ReplyFB {
     pub channel: u8,
     pub state: u8,
@@ -25,14 +25,14 @@ pub struct ReplyFB {
 }
 
 // FC: from where it is to be sent.
-#[derive(Drop)]
+#[derive(Clone, Copy)]
 pub struct ReplyFC {
     pub channel: u8,
     pub offset: usize,
 }
 
 // FD and FE.
-#[derive(Drop)]
+#[derive(Clone, Copy)]
 pub struct ReplyState {
     pub channel: u8,
     pub state: u8,

@@ -1,3 +1,5 @@
+#![tactic(auto)]
+
 // The requests of the module: no state.
 //
 // - `request`: their fields, read from a frame's data, as the controller does.

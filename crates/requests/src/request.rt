@@ -8,14 +8,14 @@ use sequences::number::{number16, number32};
 use sequences::place;
 
 // FA: may an image be sent, in packets of at most `len1` bytes?
-#[derive(Drop)]
+#[derive(Clone, Copy)]
 pub struct RequestFA {
     pub channel: u8,
     pub len1: usize,
 }
 
 // FB: which image it is.
-#[derive(Drop)]
+#[derive(Clone, Copy)]
 pub struct RequestFB {
     pub channel: u8,
     pub pid: [u8; 8],
@@ -26,14 +26,14 @@ pub struct RequestFB {
 }
 
 // FC: from where it is sent.
-#[derive(Drop)]
+#[derive(Clone, Copy)]
 pub struct RequestFC {
     pub channel: u8,
     pub offset: usize,
 }
 
 // FD: a packet's number, size and CRC-16. Its bytes stand behind them: `packet`.
-#[derive(Drop)]
+#[derive(Clone, Copy)]
 pub struct RequestFD {
     pub channel: u8,
     pub number: usize,

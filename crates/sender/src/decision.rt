@@ -5,7 +5,7 @@ ghost use Rattle.sender.specs.Decisions.{decided, nothing_decided};
 use crate::sender::Sender;
 use commands::outcome;
 
-#[derive(Drop)]
+#[derive(Clone, Copy)]
 pub enum Decision {
     // The call was refused: go on waiting.
     Nothing,
@@ -20,7 +20,7 @@ pub enum Decision {
     GivenUp,
 }
 
-#[derive(Drop)]
+#[derive(Clone, Copy)]
 pub struct Decided {
     pub outcome: u8,
     pub decision: Decision,

@@ -1,3 +1,5 @@
+#![tactic(auto)]
+
 // The module's end: it writes the requests of an image one at a time and judges the controller's replies.
 //
 // - `sender::Sender` is the record: the offer, which never changes, the position and the tries. It goes in by value and comes back by

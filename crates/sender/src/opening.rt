@@ -7,7 +7,7 @@ use crate::sender::{Offer, Sender};
 use commands::outcome;
 
 // What opening gives. A refused opening hands back the all-zero record.
-#[derive(Drop)]
+#[derive(Clone, Copy)]
 pub struct Opened {
     pub outcome: u8,
     pub sender: Sender,

@@ -4,7 +4,7 @@ ghost use Rattle.sender.specs.Phases.{is_final, command_of};
 
 use commands::table;
 
-#[derive(Drop)]
+#[derive(Clone, Copy)]
 pub enum Phase {
     // FA
     Asking,

@@ -14,7 +14,7 @@ use requests::request_frame;
 use sequences::part::part;
 
 // What the call gives: the request's length, 0 where there is none.
-#[derive(Drop)]
+#[derive(Clone, Copy)]
 pub struct Requested {
     pub outcome: u8,
     pub length: usize,

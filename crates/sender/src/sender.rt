@@ -11,7 +11,7 @@ pub const MAX_SILENCES: usize = 3;
 pub const MAX_LEGS: usize = 3;
 
 // The image as it is told to the controller. It stays as opening was given it.
-#[derive(Drop)]
+#[derive(Clone, Copy)]
 pub struct Offer {
     pub channel: u8,
     pub pid: [u8; 8],
@@ -24,7 +24,7 @@ pub struct Offer {
 }
 
 // The request that the record stands at.
-#[derive(Drop)]
+#[derive(Clone, Copy)]
 pub struct Position {
     pub phase: Phase,
     // Placing: the offset to ask for. Sending: where in the image the packet to send begins.
@@ -34,7 +34,7 @@ pub struct Position {
 }
 
 // What was tried in vain.
-#[derive(Drop)]
+#[derive(Clone, Copy)]
 pub struct Tries {
     // Silences told since the request last changed.
     pub silences: usize,
@@ -42,7 +42,7 @@ pub struct Tries {
     pub new_legs: usize,
 }
 
-#[derive(Drop)]
+#[derive(Clone, Copy)]
 pub struct Sender {
     pub offer: Offer,
     pub position: Position,

@@ -19,7 +19,7 @@ use requests::request;
 use transfer::state::{Step, Transfer};
 
 // What a frame makes of a session. Only with outcome 0 can there be a reply; without one its data is zeros.
-#[derive(Drop)]
+#[derive(Clone, Copy)]
 pub struct Answer {
     pub outcome: u8,
     pub replies: bool,

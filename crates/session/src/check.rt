@@ -11,7 +11,7 @@ use image::check::Verdict;
 use replies::reply;
 
 // What a portion call makes of a session. A refused one reads nothing, has no verdict and changes nothing.
-#[derive(Drop)]
+#[derive(Clone, Copy)]
 pub struct Checked {
     pub outcome: u8,
     pub count: usize,

@@ -1,3 +1,5 @@
+#![tactic(auto)]
+
 // The session: what a finished frame is answered.
 //
 // - `session::Session`: the list, the opened length and the transfer, by value. `open` makes one; `unlawful` is outcome 9's sentence for

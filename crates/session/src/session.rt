@@ -8,7 +8,7 @@ use commands::limits::MAX_AREA;
 use commands::outcome;
 use transfer::state::Transfer;
 
-#[derive(Drop)]
+#[derive(Clone, Copy)]
 pub struct Session {
     pub boards: [Board; list::MAX_BOARDS],
     // How many of them are used.
@@ -19,7 +19,7 @@ pub struct Session {
 }
 
 // What opening gives. A refused opening hands back the all-zero session, which no call accepts.
-#[derive(Drop)]
+#[derive(Clone, Copy)]
 pub struct Opening {
     pub outcome: u8,
     pub session: Session,

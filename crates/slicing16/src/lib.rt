@@ -1,3 +1,5 @@
+#![tactic(auto)]
+
 // The register of a kind of 16 bits over some bytes, by eight tables: each byte of a block has its table, and no lookup waits for
 // another's result.
 //

@@ -5,7 +5,7 @@ ghost use Rattle.slicing16.specs.Kinds.{direction_of};
 
 // What a kind of 16 bits without a final xor has of its own. The polynomial, written reflected where the kind is, is for the contracts:
 // the code needs only the tables made from it.
-#[derive(Drop)]
+#[derive(Clone, Copy)]
 pub struct Kind16 {
     pub poly: u16,
     pub start: u16,

@@ -1,3 +1,5 @@
+#![tactic(auto)]
+
 // The register of CRC-32 over some bytes, by sixteen tables: each byte of a block has its table, and no lookup waits for another's result.
 //
 // What tables hold stands in specs/Tables.antt of the crate `crc`. The caller lends them. Nothing is asked of them: a function is safe

@@ -1,3 +1,5 @@
+#![tactic(auto)]
+
 // What the programs read words and write lines with.
 //
 // - `output::Output`: texts on their way to standard output, collected in a buffer that the caller lends.

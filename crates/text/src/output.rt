@@ -3,15 +3,17 @@ ghost use Rattle.std.specs.Prelude.{◌≡◌, true, ◌≤◌};
 ghost use Rattle.text.specs.Outputs.{buffer_size, nothing, Flushed, RoomMade, TextAdded};
 ghost use Rattle.text.specs.Decimals.{decimal};
 
-use libc::STDOUT_FILENO;
 use sequences::part::front;
 use sequences::place;
+
+// Standard output's descriptor.
+const STDOUT: i32 = 1;
 
 // The length of the buffer: as `io::large_buffer` gives.
 pub const SIZE: usize = 65536;
 
 // The first `waiting` bytes of the buffer are still to be written. Once a write has failed none is tried again.
-#[derive(Drop)]
+#[derive(Clone, Copy)]
 pub struct Output {
     pub waiting: usize,
     pub failed: bool,
@@ -87,6 +89,6 @@ fn write(is_failed: bool, text: &[u8]) -> bool
     if is_failed {
         return true;
     }
-    let is_written = io::write_all(STDOUT_FILENO, text);
+    let is_written = io::write_all(STDOUT, text);
     !is_written
 }

@@ -1,3 +1,5 @@
+#![tactic(auto)]
+
 // The lines about an exchange, as docs/EXCHANGE.md has them: one for each copy of a frame, each silence and each change of what is stored,
 // and three at the end. Each is put behind those that wait for standard output, in the buffer that the caller lends.
 //

@@ -1,3 +1,5 @@
+#![tactic(auto)]
+
 // The state of one transfer of an image to a board, by value.
 //
 // - `phase::Phase`: how far it has come. `identity::Identity`: which image it is of.

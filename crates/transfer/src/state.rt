@@ -11,7 +11,7 @@ use image::progress::Progress;
 use replies::reply;
 
 // What a transfer has agreed on, and how far its frames have come.
-#[derive(Drop)]
+#[derive(Clone, Copy)]
 pub struct Leg {
     pub phase: Phase,
     // The session's channel.
@@ -22,7 +22,7 @@ pub struct Leg {
     pub next: usize,
 }
 
-#[derive(Drop)]
+#[derive(Clone, Copy)]
 pub struct Transfer {
     pub leg: Leg,
     pub progress: Progress,
@@ -31,7 +31,7 @@ pub struct Transfer {
 }
 
 // What a command or a portion makes of a transfer. Without an answer the transfer is the old one; without a reply its data is zeros.
-#[derive(Drop)]
+#[derive(Clone, Copy)]
 pub struct Step {
     pub answered: bool,
     pub replies: bool,

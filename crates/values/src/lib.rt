@@ -1,3 +1,5 @@
+#![tactic(auto)]
+
 // Values as the program `console` tells them (docs/CONSOLE.md, "Output"), and one field of a record with its value. Each function puts its
 // texts behind those that wait for standard output, in the buffer that the caller lends, and hands the output back.
 //

@@ -14,7 +14,7 @@ use transfer::phase::Phase;
 const LETTERS: usize = 10;
 
 // Letters, and how many of them are the word.
-#[derive(Drop)]
+#[derive(Clone, Copy)]
 pub(crate) struct Word(pub [u8; LETTERS], pub usize);
 
 pub fn verdict(output: Output, verdict: Verdict, out: &mut [u8; SIZE]) -> Output

@@ -1,3 +1,5 @@
+#![tactic(auto)]
+
 // Runs the compiled checksums, frame writer and frame reader on vectors and prints what they give. The stored output was made by
 // tests/vectors.py, which uses other implementations of the checksums; the gate compares the two.
 ghost use Rattle.std.specs.Prelude.{◌≤◌};

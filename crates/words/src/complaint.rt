@@ -1,7 +1,8 @@
 // Lines on standard error. Where that fails too there is nobody to tell.
 ghost use Rattle.io.specs.Counts.{IsPrefixLen};
 
-use libc::STDERR_FILENO;
+// Standard error's descriptor.
+const STDERR: i32 = 2;
 
 // As much of a word as is shown.
 pub const SHOWN: usize = 200;
@@ -13,7 +14,7 @@ pub fn complain(expected: &[u8], word: &[u8]) {
 }
 
 pub fn say(text: &[u8]) {
-    io::write_all(STDERR_FILENO, text);
+    io::write_all(STDERR, text);
 }
 
 // All of the line but its end.

@@ -1,3 +1,5 @@
+#![tactic(auto)]
+
 // The words that the program `exchange` is started with.
 //
 // - `words::Words`: what the words so far say, and whether one of them is not taken.

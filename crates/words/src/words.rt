@@ -22,7 +22,7 @@ const MOST_CHANNEL: usize = LAST_CHANNEL as usize;
 // The most that the size's two bytes can say.
 const MOST_SIZE: usize = 65535;
 
-#[derive(Drop)]
+#[derive(Clone, Copy)]
 pub struct Words {
     // The places of these two words among the arguments; 0 where there is none.
     pub image: usize,
