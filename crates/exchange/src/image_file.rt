@@ -1,11 +1,12 @@
 // The image to send.
+ghost use Rattle.std.specs.Prelude.{◌≤◌, length};
+
 use crate::arguments::argument;
 use sequences::part::behind;
 use sequences::place;
 use std::fs::File;
-use std::io;
 use std::io::Read;
-use std::str;
+use std::{io, str};
 use words::complaint;
 
 // The most bytes of an image: as many as the buffer has.
@@ -30,7 +31,7 @@ fn load_file(rt: &HostRuntime, word: &[u8], image: &mut [u8]) -> usize {
     match open(rt, behind(word, b"image=".len())) {
         Ok(mut file) => {
             let n = read_full(&mut file, &mut *image);
-            judged(&mut file, n, word)
+            judged(rt, &mut file, n, word)
         }
         Err(error) => unreadable(rt, &error, word),
     }
@@ -65,5 +66,47 @@ fn read_once(file: &mut File, rest: &mut [u8]) -> usize
     match file.read(rest) {
         Ok(n) => n,
         Err(_) => 0,
+    }
+}
+
+// The length of an image of which n bytes were read. That stopped at the file's end, at a failure, or where the buffer was full: one
+// read more tells which.
+fn judged(rt: &HostRuntime, file: &mut File, n: usize, word: &[u8]) -> usize {
+    let mut more = [0u8; 1];
+    match file.read(&mut more) {
+        Ok(0) => {
+            if n == 0 {
+                complaint::complain(b"image has at least 1 byte", word);
+            }
+            n
+        }
+        Ok(_) => {
+            if n < MAX_IMAGE {
+                complaint::name(b"image is a file that can be read", word);
+                complaint::say(b"\n");
+                return 0;
+            }
+            complaint::complain(b"image has at most 65536 bytes", word);
+            0
+        }
+        Err(error) => unreadable(rt, &error, word),
+    }
+}
+
+// A call has failed: the line ends with its reason.
+fn unreadable(rt: &HostRuntime, error: &io::Error, word: &[u8]) -> usize {
+    complaint::name(b"image is a file that can be read", word);
+    complaint::say(b": ");
+    tell(rt, error);
+    complaint::say(b"\n");
+    0
+}
+
+// The reason as the system words it, without its number.
+fn tell(rt: &HostRuntime, error: &io::Error) {
+    if let Ok(text) = format!(in rt.alloc(); "{error}") {
+        let said = text.as_str();
+        let end = said.find(" (os error ").unwrap_or(said.len());
+        complaint::say(&said.as_bytes()[..end]);
     }
 }

@@ -1,0 +1,24 @@
+-- `account::account::Account::after_portion` meets its contract. Assumes nothing.
+use Rattle.std.proofs.Common.{◌≡◌, ℕ, refl, inl, inr, arith}
+use Rattle.image.specs.declared.check.Verdict.TheVariants.{Unfinished}
+use Rattle.account.proofs.Telling.{frame_added}
+use Rattle.account.proofs.account.Account.after_portion.Goals as goal
+
+pub returns-in-Unfinished : goal.returns-in-Unfinished
+returns-in-Unfinished c = record { goes_on = λ _. (refl, refl); ends = λ other. absurd (other c.in-Unfinished.is) }
+
+pub returns-in_default : goal.returns-in_default
+returns-in_default c =
+    let p = c.args.p in
+    -- the match's other arm is for `Right` and `Wrong`
+    let finished : p.verdict ≡ Unfinished → ⊥ =
+    λ e. elim c.in_default.keys2 [
+      | inl right ↦ (let z : ◌≡◌ {A = ℕ} 0 1 = cc in omega arith)
+      | inr wrong ↦
+          (let z : ◌≡◌ {A = ℕ} 0 2 = cc in omega arith)
+    ] in
+    record {
+      goes_on = λ e. absurd (finished e);
+      ends = λ _. frame_added refl c.line_at.ensures
+          c.with_line.ensures;
+    }

@@ -1,0 +1,25 @@
+-- `account::line::Line::reply` meets its contract. Assumes nothing.
+use Rattle.std.proofs.Common.{◌≡◌, ℕ, ◌*◌, List, length, sym, subst, arith}
+use Rattle.account.specs.Texts.{Adds}
+use Rattle.account.proofs.Adding.{adds-reply, hex_count, no-reply}
+use Rattle.account.proofs.line.Line.reply.Goals as goal
+
+count : (c : goal.After-all-3-1) → c.bytes-n.result ≡ 2 * length c.args.reply.now
+count c =
+    let a = c.args in
+    hex_count a.self a.reply.now _ (omega arith) (omega arith) c.bytes-n.ensures.value
+
+pub returns-then-reply-eq0 : goal.returns-then-reply-eq0
+returns-then-reply-eq0 c =
+    let a = c.args in
+    let none = no-reply a.reply.now (omega arith) in
+    (subst (λ (t : List ℕ). Adds a.self t c.put.result) (sym none) c.put.ensures, omega arith)
+
+pub overflow_add-result : goal.overflow_add-result
+overflow_add-result c = omega (arith, count c)
+
+pub returns : goal.returns
+returns c =
+    let a = c.args in
+    let w = c.bytes-n.ensures in
+    (adds-reply a.self a.reply.now _ _ (omega arith) (omega arith) (omega arith) w.0 w.1, omega (arith, count c))

@@ -1,0 +1,9 @@
+-- `answers::framed` meets its contract. Assumes nothing.
+use Rattle.text.proofs.Texts.{one, ◌then◌}
+use Rattle.answers.proofs.framed.Goals as goal
+
+pub returns : goal.returns
+returns c =
+    one c.decimal-given.ensures
+    then c.in_room-told.ensures
+    then c.ended.ensures

@@ -1,0 +1,7 @@
+-- `changes::record::opening` meets its contract. Assumes nothing.
+use Rattle.text.proofs.Texts.{◌then◌}
+use Rattle.changes.proofs.record.opening.Goals as goal
+
+pub returns : goal.returns
+returns c =
+    c.number-told.ensures then c.boards-told.ensures then c.number.ensures

@@ -1,0 +1,12 @@
+-- `changes::senders::offer` meets its contract. Assumes nothing.
+use Rattle.text.proofs.Texts.{◌then◌}
+use Rattle.changes.proofs.senders.offer.Goals as goal
+
+pub returns : goal.returns
+returns c =
+    c.channel-told.ensures
+    then c.pid-told.ensures
+    then c.version-told.ensures
+    then c.md5-told.ensures
+    then c.number-told.ensures
+    then c.number.ensures

@@ -1,0 +1,7 @@
+-- `changes::senders::sender` meets its contract. Assumes nothing.
+use Rattle.text.proofs.Texts.{one, ◌then◌}
+use Rattle.changes.proofs.senders.sender.Goals as goal
+
+pub returns : goal.returns
+returns c =
+    one c.text.ensures then c.offer-told.ensures then c.position-told.ensures then c.tries.ensures

@@ -1,0 +1,11 @@
+-- `crc16::register::over` meets its contract. Assumes nothing.
+use Rattle.crc.specs.Crc.{finish, checksum}
+use Rattle.crc16.proofs.register.over.Goals as goal
+
+pub returns-then-s-lt-LEAST : goal.returns-then-s-lt-LEAST
+unfolding checksum finish
+returns-then-s-lt-LEAST c = c.over.ensures c.requires.0
+
+pub returns : goal.returns
+unfolding checksum finish
+returns c = c.long.ensures

@@ -1,0 +1,13 @@
+-- `crc32::fold::all` meets its contract. The loop's invariant: the register is carried on over the first i bytes. Assumes nothing.
+use Prim.Native.Nat.{◌-◌}
+use lib.ListN.{length}
+use Rattle.crc.specs.Crc.{crc32}
+use Rattle.crc.proofs.Parts.{CarriedOn}
+use Rattle.crc32.specs.Offsets.{offsets, far, room32}
+use Rattle.crc32.proofs.fold.all.Given as goal
+
+abbrev pub invariant-loop-i : goal.invariant-loop-i
+invariant-loop-i l = CarriedOn crc32 far offsets room32 l.s l.initial.b l.initial.i l.i
+
+abbrev pub decreases-loop-i : goal.decreases-loop-i
+decreases-loop-i l = length l.s - l.i

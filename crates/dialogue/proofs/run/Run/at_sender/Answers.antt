@@ -1,0 +1,16 @@
+-- `dialogue::run::Run::at_sender` meets its contract. Assumes nothing.
+use mathlib.Core.Path.{ap}
+use Rattle.sender.specs.declared.decision.Decided.{Decided}
+use Rattle.transcript.specs.Lines.{at_sender_texts}
+use Rattle.dialogue.specs.Dialogues.{Turn, dialogue_of, preceded}
+use Rattle.dialogue.specs.Turns.{after_decision}
+use Rattle.dialogue.proofs.Turns.{made_as, made_told}
+use Rattle.dialogue.proofs.run.Run.at_sender.Goals as goal
+
+pub returns : goal.returns
+returns c = λ area.
+    let a = c.args in
+    let x = dialogue_of a.self a.memory.now area in
+    let follows : Decided → Turn = λ d. preceded (at_sender_texts a.frame d.outcome d.decision)
+    (after_decision d x a.image.now a.letters.now) in
+    made_as (ap follows c.hear-d.ensures) (made_told c.at_sender-carrier.ensures (c.decided.ensures area))

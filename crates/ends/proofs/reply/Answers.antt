@@ -1,0 +1,17 @@
+-- `ends::reply` meets its contract. Assumes nothing.
+use mathlib.Core.Path.{ap, ◌∙◌}
+use mathlib.Core.Bool.{true}
+use mathlib.Core.List.{List, ◌++◌}
+use Prim.Native.Nat.{ℕ}
+use lib.ListN.{length, drop}
+use lib.Seq.{take-length}
+use Rattle.fronts.specs.Frame.{max_frame}
+use Rattle.sequences.specs.Padding.{zeros}
+use Rattle.link.specs.declared.frame.Frame.{Frame}
+use Rattle.ends.proofs.reply.Goals as goal
+
+pub returns : goal.returns
+returns c =
+    let a = c.args in
+    let made : List ℕ → Frame = λ b. record { to_sender = true; bytes = b; length = a.length } in
+    ap made (c.copy.ensures.copied ∙ ap (λ (s : List ℕ). s ++ drop (length a.room) (zeros max_frame)) (take-length a.room))

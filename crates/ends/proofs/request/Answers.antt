@@ -1,0 +1,14 @@
+-- `ends::request` meets its contract. Assumes nothing.
+use mathlib.Core.Path.{ap, ap₂}
+use mathlib.Core.Bool.{false}
+use mathlib.Core.List.{List}
+use Prim.Native.Nat.{ℕ}
+use Rattle.sender.specs.declared.request.Requested.{Requested}
+use Rattle.link.specs.declared.frame.Frame.{Frame}
+use Rattle.ends.proofs.request.Goals as goal
+
+pub returns : goal.returns
+returns c =
+    let e = c.request-requested.ensures in
+    let made : List ℕ → ℕ → Frame = λ b n. record { to_sender = false; bytes = b; length = n } in
+    ap₂ made e.1 (ap (λ (r : Requested). r.length) e.0)

@@ -1,0 +1,13 @@
+-- `exchange::exchange` meets its contract. Assumes nothing.
+use mathlib.Core.Path.{ap}
+use native.Mathlib.Omega.{arith}
+use lib.ListN.{length, length-take}
+use Rattle.exchange.proofs.exchange.Goals as goal
+
+pub start-requires : goal.start-requires
+start-requires c =
+    let image = ap length c.front-image.ensures in
+    let front = length-take c.args.n c.args.bytes.now in
+    let good = c.well-formed in
+    let words = c.requires.in_range in
+    (words, (omega (arith, image, front), omega (arith, image, front)))

@@ -1,0 +1,39 @@
+-- `requests::request::packet` meets its contract. Assumes nothing.
+use borrow.Author.Tests.{lt-ltb, le-ltb}
+use mathlib.Core.Path.{◌≡◌, refl, sym, ap, ◌∙◌}
+use mathlib.Core.Bool.{Bool, true, false, cond, ◌||◌}
+use Prim.Native.Nat.{ℕ, ◌+◌}
+use native.Mathlib.Nat.{zero-add}
+use lib.Dec.{ltb}
+use Rattle.fronts.specs.Frame.{max_data}
+use Rattle.requests.specs.Requests.{packet_of, packet_place}
+use Rattle.requests.proofs.request.packet.Goals as goal
+
+-- too little for an FD or too much for a frame: the part begins at the first byte; else at FD's bytes
+unfit : (L at : ℕ) → (ltb L 7 || ltb max_data L) ≡ true → at ≡ packet_place L + at
+unfolding packet_place
+unfit L at e = sym (ap (λ (b : Bool). cond b 0 7 + at) e ∙ zero-add at)
+
+fit : (L at : ℕ) → (ltb L 7 || ltb max_data L) ≡ false → 7 + at ≡ packet_place L + at
+unfolding packet_place
+fit L at e = sym (ap (λ (b : Bool). cond b 0 7 + at) e)
+
+pub returns-then-length-lt-PACKET : goal.returns-then-length-lt-PACKET
+unfolding packet_of
+returns-then-length-lt-PACKET c =
+    let e = lt-ltb _ _ c.if-length-lt-PACKET.true in
+    (simp e, (refl, unfit _ _ (simp e)))
+
+pub returns-then-length-gt-MAX_DATA : goal.returns-then-length-gt-MAX_DATA
+unfolding packet_of
+returns-then-length-gt-MAX_DATA c =
+    let e = le-ltb _ _ c.if-length-lt-PACKET.false in
+    let e2 = lt-ltb _ _ c.if-length-gt-MAX_DATA.true in
+    (simp (e, e2), (refl, unfit _ _ (simp (e, e2))))
+
+pub returns : goal.returns
+unfolding packet_of
+returns c =
+    let e = le-ltb _ _ c.if-length-lt-PACKET.false in
+    let e2 = le-ltb _ _ c.if-length-gt-MAX_DATA.false in
+    (simp (e, e2), (refl, fit _ _ (simp (e, e2))))
