@@ -6,7 +6,7 @@ use Rattle.crc.specs.Folding.{gathered}
 use Rattle.folding.proofs.gather.Given as goal
 
 abbrev pub invariant-loop-n : goal.invariant-loop-n
-invariant-loop-n l = (l.n ≤ length l.offsets) × (l.initial.n ≡ gathered (drop l.n l.offsets) l.b l.at)
+invariant-loop-n l = (l.n ≤ length l.offsets) × (l.sum ≡ gathered (drop l.n l.offsets) l.b l.at)
 
 abbrev pub decreases-loop-n : goal.decreases-loop-n
 decreases-loop-n l = l.n

@@ -7,7 +7,7 @@ use lib.Seq.{paste}
 use Rattle.folding.proofs.move_within.Given as goal
 
 abbrev pub invariant-loop-i : goal.invariant-loop-i
-invariant-loop-i l = (l.i ≤ l.to) × (l.initial.i ≡ paste l.initial.b l.from (drop l.b l.initial.b) l.i)
+invariant-loop-i l = (l.i ≤ l.n) × (l.b ≡ paste l.initial.b l.to (drop l.from l.initial.b) l.i)
 
 abbrev pub decreases-loop-i : goal.decreases-loop-i
-decreases-loop-i l = l.to - l.i
+decreases-loop-i l = l.n - l.i

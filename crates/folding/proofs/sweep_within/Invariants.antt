@@ -7,7 +7,7 @@ use Rattle.crc.specs.Folding.{swept}
 use Rattle.folding.proofs.sweep_within.Given as goal
 
 abbrev pub invariant-loop-i : goal.invariant-loop-i
-invariant-loop-i l = (l.i ≤ length l.s) × ((length l.initial.i ≡ length l.initial.b) × (swept l.offsets l.at l.s l.initial.b ≡ swept l.offsets (l.at + l.i) (drop l.i l.s) l.initial.i))
+invariant-loop-i l = (l.i ≤ length l.s) × ((length l.b ≡ length l.initial.b) × (swept l.offsets l.at l.s l.initial.b ≡ swept l.offsets (l.at + l.i) (drop l.i l.s) l.b))
 
 abbrev pub decreases-loop-i : goal.decreases-loop-i
 decreases-loop-i l = length l.s - l.i

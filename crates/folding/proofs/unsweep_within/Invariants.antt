@@ -6,7 +6,7 @@ use Rattle.crc.specs.Folding.{unswept}
 use Rattle.folding.proofs.unsweep_within.Given as goal
 
 abbrev pub invariant-loop-i : goal.invariant-loop-i
-invariant-loop-i l = (l.i ≤ length l.initial.u) × ((length l.initial.i ≡ length l.initial.u) × (take l.i l.initial.i ≡ unswept l.offsets l.at l.i l.b))
+invariant-loop-i l = (l.i ≤ length l.initial.u) × ((length l.u ≡ length l.initial.u) × (take l.i l.u ≡ unswept l.offsets l.at l.i l.b))
 
 abbrev pub decreases-loop-i : goal.decreases-loop-i
 decreases-loop-i l = length l.initial.u - l.i

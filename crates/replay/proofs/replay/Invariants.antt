@@ -5,9 +5,9 @@ use Rattle.replay.proofs.replay.Given as goal
 
 abbrev pub invariant-loop-turns : goal.invariant-loop-turns
 invariant-loop-turns l =
-    ReplayTurns (record { l.run = l.initial.output; l.initial.area = l.stdin; l.area = l.initial.input; l.initial.run = l.input }) (most_turns - l.initial.turns)
-    (record { l.run = l.run; l.initial.area = l.initial.area; l.area = l.area; l.initial.run = l.initial.run })
-    × (l.initial.turns ≤ most_turns)
+    ReplayTurns (record { l.run = l.initial.run; l.input = l.initial.input; l.output = l.initial.output; l.area = l.initial.area }) (most_turns - l.turns)
+    (record { l.run = l.run; l.input = l.input; l.output = l.output; l.area = l.area })
+    × (l.turns ≤ most_turns)
 
 abbrev pub decreases-loop-turns : goal.decreases-loop-turns
-decreases-loop-turns l = l.initial.turns
+decreases-loop-turns l = l.turns

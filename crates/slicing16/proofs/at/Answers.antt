@@ -6,4 +6,5 @@ use Rattle.slicing16.proofs.at.Goals as goal
 
 pub returns : goal.returns
 returns c =
+    λ tabled.
     two_nibbles (kind_of c.args.k) 8 _ tabled c.args.n c.args.x c.requires (search rules)

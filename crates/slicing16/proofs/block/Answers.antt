@@ -6,6 +6,7 @@ use Rattle.slicing16.proofs.block.Goals as goal
 
 pub returns : goal.returns
 returns c =
+    λ tabled.
     let first = c.two in
     let second = c.two-2 in
     let third = c.two-3 in

@@ -9,5 +9,6 @@ use Rattle.slicing16.proofs.entry.Goals as goal
 
 pub returns : goal.returns
 returns c =
+    λ tabled.
     let k = kind_of c.args.k in
     c.at.ensures tabled ∙ ap (λ (x : ℕ). zero_bytes k c.args.n (byte_step k 0 (bit_xor x c.args.b))) c.front.ensures

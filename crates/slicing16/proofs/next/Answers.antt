@@ -10,5 +10,6 @@ use Rattle.slicing16.proofs.next.Goals as goal
 pub returns : goal.returns
 unfolding zero_bytes
 returns c =
+    λ tabled.
     ap₂ bit_xor (c.entry.ensures tabled) c.rest.ensures
     ∙ sym (byte-table (kind_of c.args.k) (lit≤ tt) c.args.register c.args.b)

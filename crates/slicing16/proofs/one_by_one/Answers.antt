@@ -18,6 +18,7 @@ loop-i-preserved c =
 
 pub returns : goal.returns
 returns c =
+    λ tabled.
     let l = c.loop-i in
     reached-all (kind_of c.args.k) c.args.register c.args.s.now l.c l.i (l.invariant.1 tabled)
     c.loop-i-test.false

@@ -8,7 +8,7 @@ use Rattle.slicing16.specs.Kinds.{kind_of}
 use Rattle.slicing16.proofs.over.Given as goal
 
 abbrev pub invariant-loop-i : goal.invariant-loop-i
-invariant-loop-i l = (l.i ≤ length l.s) × (Tabled (kind_of l.k) 8 l.t → Reached (kind_of l.k) l.register l.s l.initial.i l.i)
+invariant-loop-i l = (l.i ≤ length l.s) × (Tabled (kind_of l.k) 8 l.t → Reached (kind_of l.k) l.register l.s l.c l.i)
 
 abbrev pub decreases-loop-i : goal.decreases-loop-i
 decreases-loop-i l = length l.s - l.i

@@ -14,6 +14,7 @@ use Rattle.slicing16.proofs.two.Goals as goal
 
 pub returns : goal.returns
 returns c =
+    λ tabled.
     let k = kind_of c.args.k in
     let d = direction_of c.args.k.reflected in
     let s = c.args.s.now in

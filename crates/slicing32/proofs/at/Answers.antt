@@ -6,4 +6,5 @@ use Rattle.slicing32.proofs.at.Goals as goal
 
 pub returns : goal.returns
 returns c =
+    λ tabled.
     two_nibbles crc32 16 _ tabled c.args.n c.args.x c.requires (search rules)

@@ -6,6 +6,7 @@ use Rattle.slicing32.proofs.block.Goals as goal
 
 pub returns : goal.returns
 returns c =
+    λ tabled.
     let first = c.four in
     let second = c.four-2 in
     let third = c.four-3 in

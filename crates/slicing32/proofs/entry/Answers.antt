@@ -8,5 +8,6 @@ use Rattle.slicing32.proofs.entry.Goals as goal
 
 pub returns : goal.returns
 returns c =
+    λ tabled.
     c.at.ensures tabled
     ∙ ap (λ (x : ℕ). zero_bytes crc32 c.args.n (byte_step crc32 0 (bit_xor x c.args.b))) c.low.ensures

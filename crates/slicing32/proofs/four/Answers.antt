@@ -11,6 +11,7 @@ use Rattle.slicing32.proofs.four.Goals as goal
 pub returns : goal.returns
 unfolding crc32
 returns c =
+    λ tabled.
     let r = c.args.register in
     ap₂ bit_xor (c.entry.ensures tabled)
     (ap₂ bit_xor (c.entry-2.ensures tabled)

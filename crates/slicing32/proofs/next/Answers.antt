@@ -11,5 +11,6 @@ use Rattle.slicing32.proofs.next.Goals as goal
 pub returns : goal.returns
 unfolding crc32 zero_bytes
 returns c =
+    λ tabled.
     ap (λ (x : ℕ). bit_xor x (c.args.register / 256)) (c.entry.ensures tabled)
     ∙ sym (byte-table crc32 (lit≤ tt) c.args.register c.args.b)

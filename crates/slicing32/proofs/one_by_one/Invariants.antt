@@ -8,7 +8,7 @@ use Rattle.crc.proofs.Updates.{Reached}
 use Rattle.slicing32.proofs.one_by_one.Given as goal
 
 abbrev pub invariant-loop-i : goal.invariant-loop-i
-invariant-loop-i l = (l.i ≤ length l.s) × (Tabled crc32 16 l.t → Reached crc32 l.register l.s l.initial.i l.i)
+invariant-loop-i l = (l.i ≤ length l.s) × (Tabled crc32 16 l.t → Reached crc32 l.register l.s l.c l.i)
 
 abbrev pub decreases-loop-i : goal.decreases-loop-i
 decreases-loop-i l = length l.s - l.i

@@ -5,7 +5,7 @@ use lib.ListN.{length}
 use Rattle.vectors.proofs.message.Given as goal
 
 abbrev pub invariant-loop-i : goal.invariant-loop-i
-invariant-loop-i l = (l.i ≤ 3100) × (length l.initial.i ≡ 3100)
+invariant-loop-i l = (l.i ≤ 3100) × (length l.m ≡ 3100)
 
 abbrev pub decreases-loop-i : goal.decreases-loop-i
 decreases-loop-i l = 3100 - l.i

@@ -12,7 +12,7 @@ returns c =
     simp (
       ← c.not_started.ensures,
       c.if-not_started.false,
-      ← c.start_of.ensures,
+      ← c.start_of-start.ensures,
       c.started_at.ensures,
       c.fc.ensures,
       c.replied.ensures,

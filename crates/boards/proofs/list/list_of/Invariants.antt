@@ -5,7 +5,7 @@ use Rattle.boards.proofs.Lists.{filled}
 use Rattle.boards.proofs.list.list_of.Given as goal
 
 abbrev pub invariant-loop-i : goal.invariant-loop-i
-invariant-loop-i l = (l.count ≤ l.i) × ((l.i - l.count ≤ 10 - l.count) × (l.initial.i ≡ filled l.initial.list l.list l.count l.i))
+invariant-loop-i l = (l.count ≤ l.i) × ((l.i - l.count ≤ 10 - l.count) × (l.list ≡ filled l.initial.list l.none l.count l.i))
 
 abbrev pub decreases-loop-i : goal.decreases-loop-i
 decreases-loop-i l = 10 - l.i

@@ -7,7 +7,7 @@ use Rattle.boards.proofs.Reports.{so_far}
 use Rattle.boards.proofs.report.report_data.Given as goal
 
 abbrev pub invariant-loop-i : goal.invariant-loop-i
-invariant-loop-i l = (l.i ≤ l.count) × (l.initial.i ≡ padded max_report (so_far l.boards l.count l.i))
+invariant-loop-i l = (l.i ≤ l.count) × (l.d ≡ padded max_report (so_far l.boards l.count l.i))
 
 abbrev pub decreases-loop-i : goal.decreases-loop-i
 decreases-loop-i l = l.count - l.i

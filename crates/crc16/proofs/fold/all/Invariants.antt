@@ -6,7 +6,7 @@ use Rattle.crc16.specs.Foldable.{kind_for, room16}
 use Rattle.crc16.proofs.fold.all.Given as goal
 
 abbrev pub invariant-loop-i : goal.invariant-loop-i
-invariant-loop-i l = CarriedOn (kind_for l.p) l.p.far l.p.offsets room16 l.s l.initial.b l.initial.i l.i
+invariant-loop-i l = CarriedOn (kind_for l.p) l.p.far l.p.offsets room16 l.s l.initial.b l.b l.i
 
 abbrev pub decreases-loop-i : goal.decreases-loop-i
 decreases-loop-i l = length l.s - l.i

@@ -7,7 +7,7 @@ use Rattle.crc32.specs.Offsets.{offsets, far, room32}
 use Rattle.crc32.proofs.fold.all.Given as goal
 
 abbrev pub invariant-loop-i : goal.invariant-loop-i
-invariant-loop-i l = CarriedOn crc32 far offsets room32 l.s l.initial.b l.initial.i l.i
+invariant-loop-i l = CarriedOn crc32 far offsets room32 l.s l.initial.b l.b l.i
 
 abbrev pub decreases-loop-i : goal.decreases-loop-i
 decreases-loop-i l = length l.s - l.i

@@ -6,7 +6,7 @@ use Rattle.words.specs.Ranges.{InRange}
 use Rattle.exchange.proofs.arguments.read.Given as goal
 
 abbrev pub invariant-loop-i : goal.invariant-loop-i
-invariant-loop-i l = (length l.words ≡ length l.rt) × InRange l.initial.i
+invariant-loop-i l = (length l.word ≡ length l.rt) × InRange l.words
 
 abbrev pub decreases-loop-i : goal.decreases-loop-i
-decreases-loop-i l = l.word - l.i
+decreases-loop-i l = l.initial.words - l.i

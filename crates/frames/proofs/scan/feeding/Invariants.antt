@@ -10,8 +10,8 @@ use Rattle.frames.proofs.scan.feeding.Given as goal
 
 abbrev pub invariant-loop-from : goal.invariant-loop-from
 invariant-loop-from l =
-    (l.initial.to ≤ l.to) × ((l.to ≤ length l.a + length l.b) ×
-    ((length l.a ≤ l.to) × ((l.to ≤ l.initial.to + max_frame) × (feeding_call l.b l.a 0 0 ≡ feeding_at (l.a ++ l.b) (length l.a) l.initial.to l.to))))
+    (l.from ≤ l.to) × ((l.to ≤ length l.a + length l.b) ×
+    ((length l.a ≤ l.to) × ((l.to ≤ l.from + max_frame) × (feeding_call l.b l.a 0 0 ≡ feeding_at (l.a ++ l.b) (length l.a) l.from l.to))))
 
 abbrev pub decreases-loop-from : goal.decreases-loop-from
-decreases-loop-from l = 2 * (length l.a + length l.b) - (l.initial.to + l.to)
+decreases-loop-from l = 2 * (length l.a + length l.b) - (l.from + l.to)

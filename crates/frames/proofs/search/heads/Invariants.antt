@@ -7,7 +7,7 @@ use Rattle.frames.proofs.search.heads.Given as goal
 
 abbrev pub invariant-loop-i : goal.invariant-loop-i
 invariant-loop-i l =
-    (l.from + l.initial.i ≤ l.i) × ((l.i ≤ l.from + block_size) × (l.initial.i ≡ 0 → Headless l.s l.from (l.from + block_size + 1) l.i))
+    (l.from + l.count ≤ l.i) × ((l.i ≤ l.from + block_size) × (l.count ≡ 0 → Headless l.s l.from (l.from + block_size + 1) l.i))
 
 abbrev pub decreases-loop-i : goal.decreases-loop-i
 decreases-loop-i l = l.from + block_size - l.i

@@ -39,22 +39,27 @@ module _ (c : goal.After-past-n) where
 
 pub returns-then-n-lt1 : goal.returns-then-n-lt1
 returns-then-n-lt1 c =
+    λ h k e.
     short c 1 (missing-head1 (all c) (from c) (to c) h (end c k) e (omega (arith, counted c)))
 
 pub returns-then-n-lt2 : goal.returns-then-n-lt2
 returns-then-n-lt2 c =
+    λ h k e.
     short c 2 (missing-head2 (all c) (from c) (to c) h (end c k) e (omega (arith, counted c)) (omega (arith, counted c)))
 
 pub returns-then-n-lt5 : goal.returns-then-n-lt5
 returns-then-n-lt5 c =
+    λ h k e.
     short c 5 (missing-high (all c) (from c) (to c) h (end c k) e (omega (arith, counted c)) (omega (arith, counted c)))
 
 pub returns-then-n-lt-SIZE : goal.returns-then-n-lt-SIZE
 returns-then-n-lt-SIZE c =
+    λ h k e.
     short c 6 (missing-length (all c) (from c) (to c) h (end c k) e (omega (arith, counted c)) (omega (arith, counted c)))
 
 pub returns : goal.returns
 returns c =
+    λ h k e.
     let there : header_size ≤ to c - from c = omega (arith, counted c) in
     let read : c.length_at.result ≡ length_at (slice (from c) (to c) (all c)) =
     c.length_at.ensures.0 ∙ length_seen (from c) (to c) (all c) (omega arith) in

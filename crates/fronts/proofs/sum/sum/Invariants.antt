@@ -4,7 +4,7 @@ use Rattle.fronts.specs.Frame.{sum_byte}
 use Rattle.fronts.proofs.sum.sum.Given as goal
 
 abbrev pub invariant-loop-i : goal.invariant-loop-i
-invariant-loop-i l = (l.i ≤ length l.s) × (l.initial.i ≡ sum_byte (take l.i l.s))
+invariant-loop-i l = (l.i ≤ length l.s) × (l.total ≡ sum_byte (take l.i l.s))
 
 abbrev pub decreases-loop-i : goal.decreases-loop-i
 decreases-loop-i l = length l.s - l.i

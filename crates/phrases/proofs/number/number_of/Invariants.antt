@@ -8,7 +8,7 @@ use Rattle.phrases.proofs.number.number_of.Given as goal
 
 abbrev pub invariant-loop-i : goal.invariant-loop-i
 invariant-loop-i l =
-    (l.i ≤ length l.digits) × ((l.initial.i ≤ l.most) × (value_behind 0 l.digits ≡ value_behind l.initial.i (drop l.i l.digits)))
+    (l.i ≤ length l.digits) × ((l.value ≤ l.most) × (value_behind 0 l.digits ≡ value_behind l.value (drop l.i l.digits)))
 
 abbrev pub decreases-loop-i : goal.decreases-loop-i
 decreases-loop-i l = length l.digits - l.i

@@ -10,7 +10,7 @@ use Rattle.phrases.proofs.pairs.decode.Given as goal
 
 abbrev pub invariant-loop-i : goal.invariant-loop-i
 invariant-loop-i l =
-    (l.i ≤ l.count) × (ToCome l.s l.initial.i l.i × ((length l.at ≡ length l.initial.bytes) × (l.at ≡ written l.initial.bytes (bytes_in l.s) l.i)))
+    (l.i ≤ l.count) × (ToCome l.s l.at l.i × ((length l.bytes ≡ length l.initial.bytes) × (l.bytes ≡ written l.initial.bytes (bytes_in l.s) l.i)))
 
 abbrev pub decreases-loop-i : goal.decreases-loop-i
 decreases-loop-i l = l.count - l.i

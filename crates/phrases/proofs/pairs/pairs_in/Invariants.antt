@@ -9,8 +9,8 @@ use Rattle.phrases.proofs.pairs.pairs_in.Given as goal
 
 abbrev pub invariant-loop-at : goal.invariant-loop-at
 invariant-loop-at l =
-    (l.initial.count ≤ length l.s) × ((l.count ≤ l.initial.count) × ((spaces (drop l.initial.count l.s) ≡ 0)
-    × ((are_pairs l.s ≡ are_pairs (drop l.initial.count l.s)) × (length (bytes_in l.s) ≡ l.count + length (bytes_in (drop l.initial.count l.s))))))
+    (l.at ≤ length l.s) × ((l.count ≤ l.at) × ((spaces (drop l.at l.s) ≡ 0)
+    × ((are_pairs l.s ≡ are_pairs (drop l.at l.s)) × (length (bytes_in l.s) ≡ l.count + length (bytes_in (drop l.at l.s))))))
 
 abbrev pub decreases-loop-at : goal.decreases-loop-at
-decreases-loop-at l = length l.s - l.initial.count
+decreases-loop-at l = length l.s - l.at

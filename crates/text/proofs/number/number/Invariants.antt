@@ -7,7 +7,7 @@ use Rattle.text.proofs.number.number.Given as goal
 
 abbrev pub invariant-loop-i : goal.invariant-loop-i
 invariant-loop-i l =
-    (l.i ≤ length l.digits) × ((length l.digits ≤ 5) × ((l.initial.i < 10 ^ l.i) × (number_said l.digits ≡ said_behind l.initial.i (drop l.i l.digits))))
+    (l.i ≤ length l.digits) × ((length l.digits ≤ 5) × ((l.n < 10 ^ l.i) × (number_said l.digits ≡ said_behind l.n (drop l.i l.digits))))
 
 abbrev pub decreases-loop-i : goal.decreases-loop-i
 decreases-loop-i l = length l.digits - l.i

@@ -6,7 +6,7 @@ use Rattle.values.specs.Bytes.{digit_texts}
 use Rattle.values.proofs.hexes.digits.Given as goal
 
 abbrev pub invariant-loop-i : goal.invariant-loop-i
-invariant-loop-i l = (l.i ≤ length l.bytes) × TextsAdded l.out (digit_texts (take l.i l.bytes)) l.initial.out l.initial.i l.told
+invariant-loop-i l = (l.i ≤ length l.bytes) × TextsAdded l.initial.told (digit_texts (take l.i l.bytes)) l.initial.out l.told l.out
 
 abbrev pub decreases-loop-i : goal.decreases-loop-i
 decreases-loop-i l = length l.bytes - l.i

@@ -19,6 +19,6 @@ returns-in_default c =
     ] in
     record {
       goes_on = λ e. absurd (finished e);
-      ends = λ _. frame_added refl c.line_at.ensures
+      ends = λ _. frame_added refl c.line_at-line.ensures
           c.with_line.ensures;
     }

@@ -11,7 +11,7 @@ use Rattle.carrier.proofs.carrier.Carrier.cleared.Given as goal
 abbrev pub invariant-loop-link : goal.invariant-loop-link
 invariant-loop-link l =
     (all_gone l.link ≡ all_gone l.self.link)
-    × ((r : Output) (after : List ℕ) → TextsAdded l.initial.link (all_texts l.link l.memory l.fate) l.output r after
+    × ((r : Output) (after : List ℕ) → TextsAdded l.output (all_texts l.link l.memory l.fate) l.out r after
     → TextsAdded l.self.output (all_texts l.self.link l.memory l.fate) l.initial.out r after)
 
 abbrev pub decreases-loop-link : goal.decreases-loop-link

@@ -10,7 +10,7 @@ returns c =
     let a = c.args in
     let x = dialogue_of a.self a.memory.now a.area.now in
     let line = c.at_controller-told.ensures in
-    made_as (of-call (λ k room area. after_fed x a.frame k room area a.image.now a.letters.now) c.type_inv.room)
+    made_as (of-call (λ k room area. after_fed x a.frame k room area a.image.now a.letters.now) c.feed-c.ensures)
     (made_told line
     (made_told c.tell-carrier.ensures
-    (made-carrying (with_controller x c.type_inv.room _) refl refl refl refl c.answer-self.ensures)))
+    (made-carrying (with_controller x c.feed-c.result.next _) refl refl refl refl c.answer-self.ensures)))

@@ -11,7 +11,7 @@ returns c =
       tells =
           c.cleared-carrier.ensures.tells
           then
-          (texts_as (ap sender_end_texts c.is_done.ensures) c.sender_end.ensures
+          (texts_as (ap sender_end_texts c.is_done.ensures) c.sender_end-sender.ensures
           then
           (c.controller_end-controller.ensures then texts_as (ap area_end_texts c.begins.ensures)
           c.area_end.ensures));
