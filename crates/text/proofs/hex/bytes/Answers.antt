@@ -12,7 +12,7 @@ pub returns-then-room-s : goal.returns-then-room-s
 returns-then-room-s c =
     let a = c.args in
     let short : length a.room.now < 2 * length a.s.now = omega arith in
-    (simp (lt-leb _ _ short), simp (lt-leb _ _ short))
+    record { value = simp (lt-leb _ _ short); room_after = simp (lt-leb _ _ short) }
 
 pub loop-i-init : goal.loop-i-init
 loop-i-init c = (omega arith, (omega arith, (refl, refl)))
@@ -37,4 +37,4 @@ returns c =
     let a = c.args in
     let all : l.i ≡ length a.s.now = omega arith in
     let fits = le-leb _ _ l.invariant.1.0 in
-    (simp (fits, all), simp fits (l.invariant.1.1.1 ∙ written_all a.s.now a.room.now l.i all))
+    record { value = simp (fits, all); room_after = simp fits (l.invariant.1.1.1 ∙ written_all a.s.now a.room.now l.i all) }

@@ -10,7 +10,7 @@ use Rattle.text.proofs.output.Output.decimal.Goals as goal
 pub returns : goal.returns
 returns c =
     let a = c.args in
-    let d = c.type_inv.digits in
-    let says = is-decimal a.n d.result d.new.1.0 d.ensures.0.1 d.ensures.1.0 d.ensures.1.1 in
+    let d = c.decimal-count in
+    let says = is-decimal a.n d.result d.new.out d.ensures.in_bounds.1 d.ensures.len d.ensures.digits in
     let adds : List ℕ → Type 0 = λ s. TextAdded a.self s a.buffer.now c.text.result c.text.new.buffer in
     subst adds (is_the_decimal _ _ says) c.text.ensures
