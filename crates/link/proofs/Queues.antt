@@ -1,11 +1,10 @@
 -- The frames under way stay in the order in which they were sent. Assumes nothing.
-use Rattle.std.proofs.Common.{◌≡◌, ℕ, ◌+◌, ◌-◌, ◌*◌, ◌<◌, ◌≤◌, Bool, false, List, length, take, drop, set, sym, refl, ap, ◌∙◌, ap₂, ⊎_elim, arith, get_or-set_other, get_or-set_same, ne_eqb}
+use Rattle.std.proofs.Common.{◌≡◌, ℕ, ◌-◌, ◌*◌, ◌<◌, Bool, false, List, take, drop, sym, refl, ap, ◌∙◌, ap₂, ⊎_elim, arith, get_or-set_other, get_or-set_same, ne_eqb}
 use Rattle.sequences.proofs.Orders.{lt_or_le}
 use Rattle.sequences.proofs.Places.{written-there, written-before, written_behind}
-use Rattle.sequences.specs.Places.{written_at}
 use Rattle.link.specs.declared.frame.Frame.{Frame}
 use Rattle.link.specs.declared.link.Link.{Link}
-use Rattle.link.specs.Links.{ring_place, frame_in, with_sent, with_bytes, passed}
+use Rattle.link.specs.Links.{ring_place, with_bytes, passed}
 use Rattle.link.specs.Queues.{Fits, Behind, InOrder}
 use Rattle.link.proofs.Rings.{apart, moved_up}
 

@@ -1,6 +1,5 @@
 -- `link::script::is_script` meets its contract. The loop's invariant: the letters so far are letters. Assumes nothing.
 use Rattle.std.proofs.Common.{◌≡◌, ℕ, suc, ◌<◌, ◌&&◌, List, length, get_or, drop, sym, refl, ap, ◌∙◌, add-one, arith, drop_of_length-le, drop-cons}
-use borrow.Author.Tests.{not-true, not-false}
 use Rattle.link.specs.Scripts.{is_letter, all_letters}
 use Rattle.link.proofs.script.is_script.Goals as goal
 
@@ -16,14 +15,14 @@ returns-then-not-is_letter c =
     let l = c.loop-i in
     let s = c.args.letters.now in
     let is = c.is_letter in
-    sym (l.invariant.1 ∙ one_more s l.i (omega arith) ∙ simp (← is.ensures, not-true is.result c.if-not-is_letter.true))
+    sym (l.invariant.1 ∙ one_more s l.i (omega arith) ∙ simp (← is.ensures, c.if-not-is_letter.true))
 
 pub loop-i-preserved : goal.loop-i-preserved
 loop-i-preserved c =
     let l = c.loop-i in
     let s = c.args.letters.now in
     let is = c.is_letter in
-    (omega arith, l.invariant.1 ∙ one_more s l.i (omega arith) ∙ simp (← is.ensures, not-false is.result c.if-not-is_letter.false, add-one l.i))
+    (omega arith, l.invariant.1 ∙ one_more s l.i (omega arith) ∙ simp (← is.ensures, c.if-not-is_letter.false, add-one l.i))
 
 pub returns : goal.returns
 returns c =

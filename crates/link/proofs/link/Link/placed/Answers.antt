@@ -5,4 +5,4 @@ pub returns : goal.returns
 returns c =
     let p = c.place-at in
     let start = c.start in
-    (simp p.ensures.0, simp (← p.ensures.0, ← start.ensures, c.write.ensures))
+    record { value = simp p.ensures.0; memory_after = simp (← p.ensures.0, ← start.ensures, c.write.ensures) }

@@ -8,9 +8,9 @@ placed-requires c = c.if-self-lt-PLACES.true
 pub returns-then-self-lt-PLACES : goal.returns-then-self-lt-PLACES
 returns-then-self-lt-PLACES c =
     let free = lt-ltb _ _ c.if-self-lt-PLACES.true in
-    (simp (free, c.placed.ensures.value), simp (free, c.placed.ensures.memory_after))
+    record { value = simp (free, c.placed.ensures.value); memory_after = simp (free, c.placed.ensures.memory_after) }
 
 pub returns : goal.returns
 returns c =
     let full = le-ltb _ _ c.if-self-lt-PLACES.false in
-    (simp full, simp full)
+    record { value = simp full; memory_after = simp full }
