@@ -19,7 +19,7 @@ returns-then-first c =
     let bad = ap (λ (n : Number). n.is_bad) (sym c.number_if-first.ensures) ∙ c.if-first.true in
     let e : trouble_behind_name a.row s ≡ FirstNumber = simp bad in
     let none = no_number_lem a.command a.row s a.bytes.now FirstNumber refl e in
-    (c.troubled.ensures ∙ none.0, none.1)
+    record { value = c.troubled.ensures ∙ none.0; bytes_after = none.1 }
 
 pub returns-then-second : goal.returns-then-second
 unfolding trouble_behind_name
@@ -35,7 +35,7 @@ returns-then-second c =
     let bad = ap (λ (n : Number). n.is_bad) (sym second) ∙ c.if-second.true in
     let e : trouble_behind_name r s ≡ SecondNumber = simp (good, bad) in
     let none = no_number_lem a.command r s a.bytes.now SecondNumber refl e in
-    (c.troubled-then-second.ensures ∙ none.0, none.1)
+    record { value = c.troubled-then-second.ensures ∙ none.0; bytes_after = none.1 }
 
 pub returns : goal.returns
 returns c =
@@ -48,9 +48,10 @@ returns c =
     let behind : c.behind-behind_first.result.now ≡ behind_first r s = c.behind-behind_first.ensures ∙ ap (λ (n : Number). drop n.end s) first in
     let second : y ≡ second_number r s = c.number_if-second.ensures ∙ ap (number_if (ltb 1 r.2) r.4) behind in
     let left : c.behind-behind_numbers.result.now ≡ behind_numbers r s =
-    c.behind-behind_numbers.ensures ∙ ap₂ (λ (n : Number) (l : List ℕ). drop n.end l) second behind in (
-      both_numbers a.command r s a.bytes.now x y _ first second left c.if-first.false c.if-second.false _
-          c.read_behind_numbers.ensures.value,
-      both_bytes a.command r s a.bytes.now x y _ first second left c.if-first.false c.if-second.false _
-          c.read_behind_numbers.ensures.bytes_after,
-    )
+    c.behind-behind_numbers.ensures ∙ ap₂ (λ (n : Number) (l : List ℕ). drop n.end l) second behind in
+    record {
+      value = both_numbers a.command r s a.bytes.now x y _ first second left c.if-first.false c.if-second.false _
+          c.read_behind_numbers.ensures.value;
+      bytes_after = both_bytes a.command r s a.bytes.now x y _ first second left c.if-first.false c.if-second.false _
+          c.read_behind_numbers.ensures.bytes_after;
+    }

@@ -19,10 +19,8 @@ returns-then-spaces-s c =
     let a = c.args in
     let s = a.s.now in
     let e : trouble_behind_numbers a.expected s ≡ More =
-    simp (eq-eqb _ _ c.if-expected-eq0.true, ← c.spaces.ensures, lt-ltb _ _ c.if-spaces-s.true) in (
-      c.troubled.ensures ∙ bad_phrase a.command a.first a.second (bytes_in s) _ More refl e,
-      bad-bytes (bytes_in s) a.bytes.now _ More refl e,
-    )
+    simp (eq-eqb _ _ c.if-expected-eq0.true, ← c.spaces.ensures, lt-ltb _ _ c.if-spaces-s.true) in
+    record { value = c.troubled.ensures ∙ bad_phrase a.command a.first a.second (bytes_in s) _ More refl e; bytes_after = bad-bytes (bytes_in s) a.bytes.now _ More refl e }
 
 pub returns-then-expected-eq0 : goal.returns-then-expected-eq0
 unfolding trouble_behind_numbers
@@ -32,10 +30,8 @@ returns-then-expected-eq0 c =
     let all = a.bytes.now in
     let e : trouble_behind_numbers a.expected s ≡ Fine =
     simp (eq-eqb _ _ c.if-expected-eq0.true, ← c.spaces.ensures, le-ltb _ _ c.if-spaces-s.false) in
-    let none = sym (no_bytes s (omega (arith, c.spaces.ensures))) in (
-      c.fine.ensures ∙ fine_phrase a.command a.first a.second (bytes_in s) _ 0 (ap length none) e,
-      written_none all ∙ ap (written_at all 0) none ∙ fine-bytes (bytes_in s) all _ e,
-    )
+    let none = sym (no_bytes s (omega (arith, c.spaces.ensures))) in
+    record { value = c.fine.ensures ∙ fine_phrase a.command a.first a.second (bytes_in s) _ 0 (ap length none) e; bytes_after = written_none all ∙ ap (written_at all 0) none ∙ fine-bytes (bytes_in s) all _ e }
 
 pub returns-then-pairs : goal.returns-then-pairs
 unfolding trouble_behind_numbers
@@ -43,10 +39,8 @@ returns-then-pairs c =
     let a = c.args in
     let s = a.s.now in
     let wrong = wrong_pairs s _ c.pairs_in-pairs.ensures c.if-pairs.true in
-    let e : trouble_behind_numbers a.expected s ≡ Digits = simp (ne_eqb _ _ c.if-expected-eq0.false, wrong) in (
-      c.troubled-then-pairs.ensures ∙ bad_phrase a.command a.first a.second (bytes_in s) _ Digits refl e,
-      bad-bytes (bytes_in s) a.bytes.now _ Digits refl e,
-    )
+    let e : trouble_behind_numbers a.expected s ≡ Digits = simp (ne_eqb _ _ c.if-expected-eq0.false, wrong) in
+    record { value = c.troubled-then-pairs.ensures ∙ bad_phrase a.command a.first a.second (bytes_in s) _ Digits refl e; bytes_after = bad-bytes (bytes_in s) a.bytes.now _ Digits refl e }
 
 pub returns-then-is_bad_count : goal.returns-then-is_bad_count
 unfolding trouble_behind_numbers
@@ -56,10 +50,8 @@ returns-then-is_bad_count c =
     let right = right-pairs s _ c.pairs_in-pairs.ensures c.if-pairs.false in
     let count = count-pairs s _ c.pairs_in-pairs.ensures c.if-pairs.false in
     let other = ap (is_bad_count a.expected) (sym count) ∙ sym c.is_bad_count.ensures ∙ c.if-is_bad_count.true in
-    let e : trouble_behind_numbers a.expected s ≡ Count = simp (ne_eqb _ _ c.if-expected-eq0.false, right, other) in (
-      c.troubled-then-is_bad_count.ensures ∙ bad_phrase a.command a.first a.second (bytes_in s) _ Count refl e,
-      bad-bytes (bytes_in s) a.bytes.now _ Count refl e,
-    )
+    let e : trouble_behind_numbers a.expected s ≡ Count = simp (ne_eqb _ _ c.if-expected-eq0.false, right, other) in
+    record { value = c.troubled-then-is_bad_count.ensures ∙ bad_phrase a.command a.first a.second (bytes_in s) _ Count refl e; bytes_after = bad-bytes (bytes_in s) a.bytes.now _ Count refl e }
 
 pub decode-requires : goal.decode-requires
 decode-requires c =
@@ -78,7 +70,5 @@ returns c =
     let right = right-pairs s _ c.pairs_in-pairs.ensures c.if-pairs.false in
     let count = count-pairs s _ c.pairs_in-pairs.ensures c.if-pairs.false in
     let fits = ap (is_bad_count a.expected) (sym count) ∙ sym c.is_bad_count.ensures ∙ c.if-is_bad_count.false in
-    let e : trouble_behind_numbers a.expected s ≡ Fine = simp (ne_eqb _ _ c.if-expected-eq0.false, right, fits) in (
-      c.fine-2.ensures ∙ fine_phrase a.command a.first a.second (bytes_in s) _ _ count e,
-      c.decode.ensures ∙ fine-bytes (bytes_in s) a.bytes.now _ e,
-    )
+    let e : trouble_behind_numbers a.expected s ≡ Fine = simp (ne_eqb _ _ c.if-expected-eq0.false, right, fits) in
+    record { value = c.fine-2.ensures ∙ fine_phrase a.command a.first a.second (bytes_in s) _ _ count e; bytes_after = c.decode.ensures ∙ fine-bytes (bytes_in s) a.bytes.now _ e }
