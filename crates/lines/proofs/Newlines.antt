@@ -1,16 +1,30 @@
 -- The first newline of some bytes. Assumes nothing.
-use Rattle.std.proofs.Common.{◌≡◌, ℕ, zero, suc, ◌+◌, ◌<◌, ◌≤◌, Bool, true, false, eqb, List, [], ◌∷◌, length, get_or, refl, ap, ◌∙◌, arith, eqb-true}
+use Rattle.std.proofs.Common.{◌≢◌, drop, drop_of_length-le, add-one, eq-eqb, ne_eqb, ◌≡◌, ℕ, zero, suc, ◌+◌, ◌<◌, ◌≤◌, Bool, true, false, eqb, List, [], ◌∷◌, length, get_or, refl, ap, ◌∙◌, arith, eqb-true}
 use borrow.Author.Tests.{eqb-false}
-use lib.Seq.{take-length}
-use Rattle.bytes.specs.Bytes.{index_of, index_after, slice}
-use Rattle.lines.specs.Lines.{newline_byte, line_in}
+use lib.Seq.{drop-cons}
+use Rattle.lines.specs.Lines.{index_of, index_after, newline_byte, line_in}
 
--- as a search of all of them finds it
-pub found_in_all : (s : List ℕ) → 0 + index_of newline_byte (slice 0 (length s) s) ≡ line_in s
-unfolding slice
-found_in_all s =
-    let e : 0 + index_of newline_byte (slice 0 (length s) s) ≡ index_of newline_byte (slice 0 (length s) s) = omega arith in
-    e ∙ ap (index_of newline_byte) (take-length s)
+-- ---- a search from the front, byte by byte
+
+module _ (s : List ℕ) (i : ℕ) where
+  pub goes_on : i < length s → get_or s i 0 ≢ newline_byte → i + line_in (drop i s) ≡ i + 1 + line_in (drop (i + 1) s)
+  unfolding index_of index_after
+  goes_on h e =
+      let here : line_in (drop i s) ≡ suc (line_in (drop (i + 1) s)) =
+      ap line_in (drop-cons s i 0 h) ∙ simp (ne_eqb _ _ e, add-one i) in
+      omega arith
+
+  pub found_here : i < length s → get_or s i 0 ≡ newline_byte → i + line_in (drop i s) ≡ i
+  unfolding index_of index_after
+  found_here h e =
+      let here : line_in (drop i s) ≡ 0 = ap line_in (drop-cons s i 0 h) ∙ simp (eq-eqb _ _ e) in
+      omega arith
+
+  pub all_searched : length s ≤ i → i + line_in (drop i s) ≡ i
+  unfolding index_of
+  all_searched h =
+      let here : line_in (drop i s) ≡ 0 = ap line_in (drop_of_length-le s {i = i} h) in
+      omega arith
 
 -- ---- one byte more in front
 

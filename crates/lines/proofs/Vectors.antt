@@ -1,7 +1,6 @@
 -- Lines of small buffers, by computation from the definitions. Assumes nothing.
 use Rattle.std.proofs.Common.{refl}
-use Rattle.bytes.specs.Bytes.{index_of, index_after}
-use Rattle.lines.specs.Lines.{next_of}
+use Rattle.lines.specs.Lines.{index_of, index_after, next_of}
 use Rattle.lines.specs.Examples.{NextExamples}
 
 pub next_examples : NextExamples

@@ -184,8 +184,14 @@ fn read_into(mut stdin: Stdin, rest: &mut [u8]) -> Got
     ensures { GotWithin (length rest.old) result.count result.failed }
 {
     match stdin.read(rest) {
-        Ok(count) => Got { count, failed: false },
-        Err(_) => Got { count: 0, failed: true },
+        Ok(count) => Got {
+            count,
+            failed: false,
+        },
+        Err(_) => Got {
+            count: 0,
+            failed: true,
+        },
     }
 }
 

@@ -11,6 +11,6 @@ returns c =
     let p = cut.result.now in
     let size = ap length cut.ensures in
     let fits : length p ≤ line_buffer =
-    omega (arith, size, slice_no_longer a.at a.end a.from.now, c.between-arg-1.given.0) in
-    let there = stand_in_front a.to.now p (omega (arith, fits, c.write-arg-1.given.0.1)) in
+    omega (arith, size, slice_no_longer a.at a.end a.from.now) in
+    let there = stand_in_front a.to.now p (omega (arith, fits)) in
     record { counts = size; fits = fits; stands = ap (take (length p)) c.write.ensures ∙ there ∙ cut.ensures }

@@ -13,7 +13,7 @@ returns-then-length-waiting c =
 pub returns-then-self : goal.returns-then-self
 returns-then-self c =
     let a = c.args in
-    c.last_Line.ensures
+    c.last_line.ensures
     ∙ is_the_last a.self _ _ c.if-length-waiting.false c.if-length-lt-INPUT.true c.if-self.true
     ∙ of-waiting a.self c.between-waiting.result.now a.input.now c.line_in-length.ensures c.between-waiting.ensures
 

@@ -10,9 +10,9 @@ returns c =
     let moved = c.to_front-kept.ensures in
     record {
       starts = refl;
-      keeps = ap (λ (n : ℕ). take n read.new.kept) (sym moved.counts) ∙ got.stays ∙ moved.stands;
+      keeps = ap (λ (n : ℕ). take n read.new.all) (sym moved.counts) ∙ got.stays ∙ moved.stands;
       grows = omega (arith, moved.counts);
-      within = omega (arith, got.within, c.read_behind-arg-1.given.0.1);
+      within = omega (arith, got.within);
       ends = none-behind _ _ _ moved.counts;
       fails = λ e. eq-eqb _ 0 (got.fails e);
       counts = refl;
