@@ -8,6 +8,6 @@ pub start-requires : goal.start-requires
 start-requires c =
     let image = ap length c.front-image.ensures in
     let front = length-take c.args.n c.args.bytes.now in
-    let good = c.well-formed in
+    let good = c.well_formed in
     let words = c.requires.in_range in
-    (words, (omega (arith, image, front), omega (arith, image, front)))
+    record { in_range = words; image_nonzero = omega (arith, image, front); image_len_bound = omega (arith, image, front) }

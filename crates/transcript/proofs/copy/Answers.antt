@@ -12,7 +12,7 @@ use Rattle.transcript.proofs.copy.Goals as goal
 
 pub digits-requires : goal.digits-requires
 digits-requires c =
-    let good = c.well-formed in
+    let good = c.well_formed in
     let size : length c.args.frame.bytes ≡ max_frame = search rules in
     omega (arith, ap length c.front-all.ensures, length-take c.args.frame.length c.args.frame.bytes)
 

@@ -11,4 +11,4 @@ pub returns : goal.returns
 returns c =
     let a = c.args in
     let x = c.portion.ensures in
-    (x.gives, ap (λ s. left_as s a.n a.room.now) x.leaves-room)
+    record { value = x.gives; room_after = ap (λ s. left_as s a.n a.room.now) x.leaves-room }

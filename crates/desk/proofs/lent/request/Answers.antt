@@ -11,4 +11,4 @@ pub returns : goal.returns
 returns c =
     let a = c.args in
     let x = c.request.ensures in
-    (x.0, ap (λ s. left_as s a.n a.room.now) x.1)
+    record { value = x.0; room_after = ap (λ s. left_as s a.n a.room.now) x.1 }

@@ -22,18 +22,18 @@ pub returns-then-length-lt-PACKET : goal.returns-then-length-lt-PACKET
 unfolding packet_of
 returns-then-length-lt-PACKET c =
     let e = lt-ltb _ _ c.if-length-lt-PACKET.true in
-    (simp e, (refl, unfit _ _ (simp e)))
+    record { result_value = simp e; ref_ptr_value = (refl, unfit _ _ (simp e)) }
 
 pub returns-then-length-gt-MAX_DATA : goal.returns-then-length-gt-MAX_DATA
 unfolding packet_of
 returns-then-length-gt-MAX_DATA c =
     let e = le-ltb _ _ c.if-length-lt-PACKET.false in
     let e2 = lt-ltb _ _ c.if-length-gt-MAX_DATA.true in
-    (simp (e, e2), (refl, unfit _ _ (simp (e, e2))))
+    record { result_value = simp (e, e2); ref_ptr_value = (refl, unfit _ _ (simp (e, e2))) }
 
 pub returns : goal.returns
 unfolding packet_of
 returns c =
     let e = le-ltb _ _ c.if-length-lt-PACKET.false in
     let e2 = le-ltb _ _ c.if-length-gt-MAX_DATA.false in
-    (simp (e, e2), (refl, fit _ _ (simp (e, e2))))
+    record { result_value = simp (e, e2); ref_ptr_value = (refl, fit _ _ (simp (e, e2))) }

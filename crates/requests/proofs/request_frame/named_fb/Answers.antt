@@ -10,13 +10,13 @@ use Rattle.requests.proofs.request_frame.named_fb.Goals as goal
 
 pub slice_bounds-with-end-4 : goal.slice_bounds-with-end-4
 slice_bounds-with-end-4 c =
-    let good = c.well-formed in
+    let good = c.well_formed in
     search rules
 
 pub returns : goal.returns
 returns c =
     let r = c.args.r in
-    let good = c.well-formed in
+    let good = c.well_formed in
     let pid : length r.pid ≡ 8 = search rules in
     let version : length r.version ≡ 3 = search rules in
     let md5 : length r.md5 ≡ 16 = search rules in
@@ -31,4 +31,4 @@ returns c =
     (omega arith) in
     let f2 = c.with-begun.ensures ∙ with_field 0xFB d1 r.pid f1 refl (omega arith) in
     let f3 = c.with-versioned.ensures ∙ with_field 0xFB d2 r.version f2 refl (omega arith) in
-    (c.with-2.ensures ∙ with_field 0xFB d3 r.md5 f3 refl (omega arith), omega arith)
+    record { value = c.with-2.ensures ∙ with_field 0xFB d3 r.md5 f3 refl (omega arith); r_len = omega arith }

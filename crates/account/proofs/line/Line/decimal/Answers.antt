@@ -5,11 +5,11 @@ use Rattle.account.proofs.line.Line.decimal.Goals as goal
 
 pub text-requires : goal.text-requires
 text-requires c =
-    let d = c.type_inv.digits in
-    (omega arith, omega (arith, twenty_digits c.args.n d.result (omega arith) d.ensures.1.0))
+    let d = c.decimal-count in
+    record { bytes_len = omega arith; text_bound = omega (arith, twenty_digits c.args.n d.result (omega arith) d.ensures.len) }
 
 pub returns : goal.returns
 returns c =
-    let d = c.type_inv.digits in
-    adds-decimal c.args.n d.result d.new.1.0 (omega arith) d.ensures.0.1 d.ensures.1.0 d.ensures.1.1
+    let d = c.decimal-count in
+    adds-decimal c.args.n d.result d.new.out (omega arith) d.ensures.in_bounds.1 d.ensures.len d.ensures.1.1
     c.text.ensures

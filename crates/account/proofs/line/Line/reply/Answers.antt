@@ -13,7 +13,7 @@ pub returns-then-reply-eq0 : goal.returns-then-reply-eq0
 returns-then-reply-eq0 c =
     let a = c.args in
     let none = no-reply a.reply.now (omega arith) in
-    (subst (λ (t : List ℕ). Adds a.self t c.put.result) (sym none) c.put.ensures, omega arith)
+    record { adds = subst (λ (t : List ℕ). Adds a.self t c.put.result) (sym none) c.put.ensures; count_bound = omega arith }
 
 pub overflow_add-result : goal.overflow_add-result
 overflow_add-result c = omega (arith, count c)
@@ -22,4 +22,4 @@ pub returns : goal.returns
 returns c =
     let a = c.args in
     let w = c.bytes-n.ensures in
-    (adds-reply a.self a.reply.now _ _ (omega arith) (omega arith) (omega arith) w.0 w.1, omega (arith, count c))
+    record { adds = adds-reply a.self a.reply.now _ _ (omega arith) (omega arith) (omega arith) w.0 w.1; count_bound = omega (arith, count c) }
