@@ -5,7 +5,7 @@ use mathlib.Core.List.{List, [], ◌∷◌, ◌++◌, append-nil}
 use Prim.Native.Nat.{ℕ, ◌+◌, ◌-◌, ◌≤◌, ◌<◌}
 use native.Mathlib.Omega.{arith}
 use borrow.Author.Tests.{le-leb, lt-leb}
-use lib.ListN.{length, take, drop, length-take, length-drop, take-append-drop}
+use lib.ListN.{length, take, drop, length-drop, take-append-drop}
 use lib.Seq.{drop-nil, drop-append-le}
 use Rattle.frames.specs.declared.reader.Reader.{Reader}
 use Rattle.sequences.specs.Bytes.{Bytes}
@@ -13,7 +13,7 @@ use Rattle.fronts.specs.Frame.{FrameBytes, max_data, max_frame, frame_size, leng
 use Rattle.fronts.specs.Fronts.{front_of, is_whole}
 use Rattle.frames.specs.Reading.{Reading, reading}
 use Rattle.frames.specs.LiveReading.{CallResult, with_frame, feeding_call, quiet_call, held_bytes, holding, handed_back, refused}
-use Rattle.frames.specs.LiveReading.{fed, quieted, Call, feeding, quiet, called, fed_by, offered, due, called_then, CallKeeps}
+use Rattle.frames.specs.LiveReading.{fed, quieted, Call, feeding, quiet, called, fed_by, due, called_then, CallKeeps}
 use Rattle.sequences.proofs.Bytes.{bytes_drop, bytes_take}
 use Rattle.sequences.proofs.Padding.{take-padded}
 use Rattle.fronts.proofs.Fronts.{is-whole, whole-passed}

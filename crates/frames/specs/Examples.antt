@@ -5,7 +5,6 @@ use Rattle.fronts.specs.declared.front.Front.TheVariants.{Dead, Open}
 use Rattle.fronts.specs.Frame.{Frame}
 use Rattle.fronts.specs.Fronts.{front_of}
 use Rattle.frames.specs.Finished.{finished}
-use Rattle.frames.specs.Reading.{reading}
 use Rattle.frames.specs.LiveReading.{no_frame, holding, fed, quieted}
 
 -- P1, the end request of channel 10

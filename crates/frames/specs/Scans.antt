@@ -2,7 +2,7 @@
 -- one sequence with two positions; what is held stands between them. No claim rests on this file. Assumes nothing.
 use Rattle.std.specs.Prelude.{◌≡◌, true, cond, List, ◌++◌, ℕ, ◌+◌, ◌-◌, ◌≤◌, ◌<◌, length, get_or}
 use Rattle.std.proofs.Math.Seq.{slice}
-use Rattle.fronts.specs.declared.front.Front.TheVariants.{Whole, Open}
+use Rattle.fronts.specs.declared.front.Front.TheVariants.{Whole}
 use Rattle.frames.specs.declared.scan.Scan.{Scan}
 use Rattle.fronts.specs.Frame.{head1, head2, max_frame}
 use Rattle.fronts.specs.Fronts.{front_of}

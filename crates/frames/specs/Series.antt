@@ -4,7 +4,7 @@ use Rattle.std.specs.Prelude.{◌≡◌, false, List, [], ◌∷◌, ◌++◌, �
 use Rattle.sequences.specs.Bytes.{Bytes}
 use Rattle.fronts.specs.Frame.{max_data, Frame, encode}
 use Rattle.fronts.specs.Fronts.{front_of, is_whole}
-use Rattle.frames.specs.Reading.{Reading, reading}
+use Rattle.frames.specs.Reading.{reading}
 
 -- `Series s fs n`: s is the frames fs in their order, with n stray bytes before, between and behind them, at none of which a whole
 -- frame begins, looking at all that follows

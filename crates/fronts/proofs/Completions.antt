@@ -1,5 +1,5 @@
 -- Some bytes make an open front whole: zeros up to the sum, and the sum. Assumes nothing.
-use Rattle.std.proofs.Common.{◌≡◌, ℕ, zero, suc, ◌+◌, ◌-◌, ◌%◌, ◌<◌, ◌≤◌, eqb, leb, List, [], ◌∷◌, ◌++◌, length, get_or, take, sym, refl, ap, ◌∙◌, subst, ap₂, ⊎_elim, append_assoc, mod-lt, zero-lt-suc, arith, length-append, take_at, get_or-append-add, eqb-true, leb-true}
+use Rattle.std.proofs.Common.{◌≡◌, ℕ, zero, suc, ◌+◌, ◌-◌, ◌≤◌, eqb, leb, List, [], ◌∷◌, ◌++◌, length, get_or, take, sym, refl, ap, ◌∙◌, subst, ap₂, ⊎_elim, append_assoc, mod-lt, zero-lt-suc, arith, length-append, take_at, get_or-append-add, eqb-true, leb-true}
 use lib.ListN.{length-replicate, get_or-append, get_or-eq_default}
 use lib.Seq.{get_or_at}
 use Rattle.fronts.specs.declared.front.Front.TheVariants.{Whole, Open}

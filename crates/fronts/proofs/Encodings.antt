@@ -3,9 +3,8 @@ use Rattle.std.proofs.Common.{◌≡◌, ℕ, suc, ◌+◌, ◌*◌, ◌/◌, �
 use lib.Seq.{get_or_at, take-append_seam}
 use Rattle.fronts.specs.declared.front.Front.TheVariants.{Whole}
 use Rattle.sequences.specs.Bytes.{Bytes}
-use Rattle.fronts.specs.Frame.{max_data, header_size, frame_size, sum_byte, Frame, FrameBytes, unsummed, encode, length_at, frame_at}
+use Rattle.fronts.specs.Frame.{max_data, header_size, frame_size, sum_byte, Frame, unsummed, encode, length_at, frame_at}
 use Rattle.fronts.specs.Fronts.{front_of}
-use Rattle.sequences.proofs.Bytes.{bytes-append}
 use Rattle.fronts.proofs.Fronts.{Passed, whole-passed, passed-whole}
 use Rattle.fronts.proofs.Sizes.{unsummed-size, encode-size}
 

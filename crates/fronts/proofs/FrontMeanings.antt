@@ -1,10 +1,10 @@
 -- Of any bytes: the front is whole exactly when a frame's bytes begin there, and dead exactly when no bytes behind it make one begin
 -- there; otherwise it is open. Assumes nothing.
-use Rattle.std.proofs.Common.{◌≡◌, ℕ, ◌≤◌, List, [], ◌++◌, length, drop, sym, refl, ap, ◌∙◌, append-nil, arith}
+use Rattle.std.proofs.Common.{◌≡◌, ℕ, List, [], ◌++◌, drop, sym, refl, ap, ◌∙◌, append-nil, arith}
 use Rattle.fronts.specs.declared.front.Front.{Front}
 use Rattle.fronts.specs.declared.front.Front.TheVariants.{Whole, Dead, Open}
 use Rattle.sequences.specs.Bytes.{Bytes}
-use Rattle.fronts.specs.Frame.{max_data, frame_size, WholeFrame, length_at, frame_at}
+use Rattle.fronts.specs.Frame.{frame_size, WholeFrame, length_at, frame_at}
 use Rattle.fronts.specs.Fronts.{front_of, Completable, FrontsMean}
 use Rattle.sequences.proofs.Bytes.{bytes-append}
 use Rattle.fronts.proofs.Fronts.{dead-whole, whole_open, whole-passed}

@@ -1,15 +1,15 @@
 -- Bytes behind a decided front change nothing, and an undecided front is short. Assumes nothing.
-use Rattle.std.proofs.Common.{◌≡◌, ℕ, ◌+◌, ◌*◌, ◌<◌, ◌≤◌, Bool, true, false, eqb, leb, List, ◌++◌, length, get_or, take, drop, sym, refl, ap, ◌∙◌, ap₂, ⊎_elim, arith, length-append, length-drop, leb-true}
+use Rattle.std.proofs.Common.{◌≡◌, ℕ, ◌+◌, ◌<◌, ◌≤◌, Bool, true, false, eqb, leb, List, ◌++◌, length, get_or, take, drop, sym, refl, ap, ◌∙◌, ap₂, ⊎_elim, arith, length-append, length-drop, leb-true}
 use lib.ListN.{get_or-append}
 use lib.Seq.{take-append-le, drop-append-le}
 use Rattle.fronts.specs.declared.front.Front.{Front}
 use Rattle.fronts.specs.declared.front.Front.TheVariants.{Whole, Dead, Open}
-use Rattle.fronts.specs.Frame.{head1, head2, max_data, header_size, frame_size, sum_byte, Frame, length_at, frame_at}
+use Rattle.fronts.specs.Frame.{head1, head2, max_data, header_size, frame_size, sum_byte, length_at, frame_at}
 use Rattle.sequences.specs.Numbers.{number16}
 use Rattle.fronts.specs.Fronts.{test, front_of}
 use Rattle.sequences.proofs.Orders.{lt_or_le}
 use Rattle.fronts.proofs.Fronts.{test_open, test-fails, test-passes, dead_open, whole_open, sum_right, from_sum, from_length}
-use Rattle.fronts.proofs.Fronts.{from_high, from_head2, Passed, whole-passed}
+use Rattle.fronts.proofs.Fronts.{from_high, from_head2, whole-passed}
 
 -- one test: more bytes keep its answer, if they keep its outcome and the answer after it
 test-more :

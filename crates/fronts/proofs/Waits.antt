@@ -2,7 +2,7 @@
 use Rattle.std.proofs.Common.{◌≡◌, ℕ, ◌+◌, ◌-◌, ◌<◌, ◌≤◌, List, length, get_or, sym, ◌∙◌, ap₂, arith}
 use lib.Seq.{slice, length-slice}
 use Rattle.fronts.specs.declared.front.Front.TheVariants.{Open}
-use Rattle.fronts.specs.Frame.{head1, head2, max_data, header_size, frame_size, length_at}
+use Rattle.fronts.specs.Frame.{head1, head2, header_size, frame_size, length_at}
 use Rattle.sequences.specs.Numbers.{number16}
 use Rattle.fronts.specs.Fronts.{front_of, Missing}
 use Rattle.sequences.proofs.Slices.{get_or-slice}

@@ -4,7 +4,7 @@
 -- modulo 256 .. A frame has 7 + L bytes. L is 0 to 519; 55 AA followed by a larger L is no frame. Version and command may be anything
 -- at this level. All numbers are high byte first".
 -- Assumes nothing.
-use Rattle.std.specs.Prelude.{◌≡◌, ℕ, ◌+◌, ◌*◌, ◌/◌, ◌%◌, ◌<◌, ◌≤◌, List, [], ◌∷◌, ◌++◌, length, take, drop, slice_index}
+use Rattle.std.specs.Prelude.{◌≡◌, ℕ, ◌+◌, ◌/◌, ◌%◌, ◌<◌, ◌≤◌, List, [], ◌∷◌, ◌++◌, length, take, drop, slice_index}
 use Rattle.sequences.specs.Bytes.{Bytes}
 use Rattle.sequences.specs.Numbers.{number16}
 

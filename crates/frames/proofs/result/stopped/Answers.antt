@@ -10,7 +10,9 @@ use Rattle.fronts.specs.Frame.{frame_size, length_at, frame_at}
 use Rattle.fronts.specs.Fronts.{front_of}
 use Rattle.fronts.specs.declared.front.Front.TheVariants.{Whole}
 use Rattle.frames.specs.LiveReading.{with_frame, without_frame, holding, handed_back}
-use Rattle.frames.specs.Scans.{held_at}
+use Rattle.frames.specs.Scans.{Stop, held_at}
+use Rattle.frames.specs.Finished.{finished}
+use Rattle.frames.specs.declared.scan.Scan.{Scan}
 use Rattle.frames.specs.declared.reader.Reader.{Reader}
 use Rattle.frames.specs.declared.finished.FinishedFrame.{FinishedFrame}
 use Rattle.sequences.proofs.Slices.{drop-slice}
@@ -19,56 +21,64 @@ use Rattle.fronts.proofs.Fronts.{whole-passed}
 use Rattle.fronts.proofs.Encodings.{payload-size}
 use Rattle.frames.proofs.result.stopped.Goals as goal
 
--- what is held where the scan stops
-module _ (c : goal.Start) where
+-- what is held where the scan stops, and a frame stands there
+module _ (a b : List ℕ) (s : Scan) (stop : Stop a b s) (yes : s.found ≡ true) where
   abbrev all : List ℕ
-  all = c.args.a.now ++ c.args.b.now
+  all = a ++ b
 
   abbrev held : List ℕ
-  held = held_at c.args.a.now c.args.b.now c.args.s
+  held = held_at a b s
 
--- a frame stands there
-module _ (c : goal.After-frame_at-frame) where
-  abbrev o : tie.Start
-  o = c
+  whole : front_of held ≡ Whole
+  whole = stop.whole yes
 
-  whole : front_of (held o) ≡ Whole
-  whole = o.pre.whole c.if-s.true
+  module _ (f : FinishedFrame) (is : f ≡ finished (frame_at held)) where
+    L-is : f.length ≡ length_at held
+    L-is = ap (λ (g : FinishedFrame). g.length) is ∙ finished-length (frame_at held) ∙ payload-size held whole
 
-  L-is : c.frame_at-frame.result.length ≡ length_at (held o)
-  L-is = ap (λ (f : FinishedFrame). f.length) c.frame_at-frame.ensures ∙ finished-length (frame_at (held o)) ∙ payload-size (held o) whole
+    rest : s.from + frame_size f.length ≤ s.to
+    rest =
+        omega (
+          arith,
+          stop,
+          L-is,
+          (whole-passed held whole).there,
+          length-slice s.from s.to all (omega (arith, stop, length-append a b)),
+        )
 
-  rest : o.args.s.from + frame_size (length_at (held o)) ≤ o.args.s.to
-  rest =
-      omega (
-        arith,
-        o.pre,
-        (whole-passed (held o) whole).there,
-        length-slice o.args.s.from o.args.s.to (all o) (omega (arith, o.pre, length-append o.args.a.now o.args.b.now)),
-      )
+    behind : holding (slice (s.from + frame_size f.length) s.to all) ≡ holding (drop (frame_size (length_at held)) held)
+    behind =
+        ap holding
+        (ap (λ (k : ℕ). slice (s.from + frame_size k) s.to all) L-is ∙ sym (drop-slice s.from s.to (frame_size (length_at held)) all))
 
 pub frame_at-frame-requires : goal.frame_at-frame-requires
 frame_at-frame-requires c = let o = c.requires in (o.ordered, (o.within, o.whole c.if-s.true))
 
 pub overflow_add-rest : goal.overflow_add-rest
-overflow_add-rest c = omega (arith, rest c, L-is c)
+overflow_add-rest c =
+    let o = c.args in
+    omega (arith, rest o.a.now o.b.now o.s c.requires c.if-s.true c.frame_at-frame.result c.frame_at-frame.ensures)
 
 pub overflow_add-rest-then-s : goal.overflow_add-rest-then-s
-overflow_add-rest-then-s c = omega (arith, rest c, L-is c)
+overflow_add-rest-then-s c =
+    let o = c.args in
+    omega (arith, rest o.a.now o.b.now o.s c.requires c.if-s.true c.frame_at-frame.result c.frame_at-frame.ensures)
 
 pub hold-next-requires : goal.hold-next-requires
-hold-next-requires c = omega (arith, rest c, L-is c, (o c).pre)
+hold-next-requires c =
+    let o = c.args in
+    let rest = rest o.a.now o.b.now o.s c.requires c.if-s.true c.frame_at-frame.result c.frame_at-frame.ensures in
+    omega (arith, rest, c.requires)
 
 pub returns-then-s : goal.returns-then-s
 unfolding with_frame
 returns-then-s c =
-    let start = o c in
-    let h = held start in
-    let from = start.args.s.from in
-    let taken = start.args.s.to - length start.args.a.now in
-    let behind = ap (λ (k : ℕ). slice (from + frame_size k) start.args.s.to (all start)) (L-is c)
-    ∙ sym (drop-slice from start.args.s.to (frame_size (length_at h)) (all start)) in
-    let next : c.hold-next.result ≡ holding (drop (frame_size (length_at h)) h) = c.hold-next.ensures ∙ ap holding behind in
+    let o = c.args in
+    let h = held_at o.a.now o.b.now o.s in
+    let from = o.s.from in
+    let taken = o.s.to - length o.a.now in
+    let next : c.hold-next.result ≡ holding (drop (frame_size (length_at h)) h) =
+    c.hold-next.ensures ∙ behind o.a.now o.b.now o.s c.requires c.if-s.true c.frame_at-frame.result c.frame_at-frame.ensures in
     ap₂ (λ (r : Reader) (f : FinishedFrame). record { next = r; taken = taken; dropped = from; found = true; frame = f }) next
     c.frame_at-frame.ensures
     ∙ ap (λ (b : Bool). handed_back (cond b (with_frame taken h from) (without_frame taken h from)))
@@ -76,7 +86,7 @@ returns-then-s c =
 
 pub returns : goal.returns
 returns c =
-    let h = held c in
+    let h = held_at c.args.a.now c.args.b.now c.args.s in
     let from = c.args.s.from in
     let taken = c.args.s.to - length c.args.a.now in
     ap₂ (λ (r : Reader) (f : FinishedFrame). record { next = r; taken = taken; dropped = from; found = false; frame = f })

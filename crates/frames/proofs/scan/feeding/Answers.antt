@@ -6,68 +6,37 @@ use Prim.Native.Nat.{ℕ, ◌+◌, ◌-◌, ◌≤◌, ◌<◌}
 use native.Mathlib.Omega.{arith}
 use lib.ListN.{length, length-append}
 use lib.Seq.{slice}
+use Rattle.fronts.specs.Frame.{max_frame}
+use Rattle.fronts.specs.declared.front.Front.{Front}
 use Rattle.fronts.specs.declared.front.Front.TheVariants.{Whole, Dead, Open}
 use Rattle.fronts.specs.Fronts.{front_of, Missing}
-use Rattle.frames.specs.LiveReading.{without_frame, feeding_call}
+use Rattle.frames.specs.LiveReading.{without_frame}
 use Rattle.frames.proofs.Positions.{feeding_at, feeding-start, dead-some, feeding-dead-at, feeding-waits-at, waits-room}
 use Rattle.frames.proofs.Positions.{feeding-whole-at, feeding-ends-at}
 use Rattle.frames.proofs.Stretches.{feeding-headless-at}
 use Rattle.frames.proofs.scan.feeding.Goals as goal
 
--- where the front is judged
-module _ (c : goal.After-front_at-f invariant-loop decreases-loop) where
-  abbrev a : List ℕ
-  a = c.args.a.now
-
-  abbrev b : List ℕ
-  b = c.args.b.now
-
-  abbrev from : ℕ
-  from = c.loop-from.from
-
-  abbrev to : ℕ
-  to = c.loop-from.to
-
-  goes_on : feeding_call b a 0 0 ≡ feeding_at (a ++ b) (length a) from to
-  goes_on = c.loop-from.invariant.1.1.1.1
-
-  end : to ≤ length (a ++ b)
-  end = omega (arith, length-append a b)
-
 -- where a front is dead
-module _ (c : goal.In-Dead invariant-loop decreases-loop) where
-  abbrev d : tie.After-front-at invariant-loop decreases-loop
-  d = c
+dead-loses : (v : List ℕ) (n from to : ℕ) (f : Front) → from ≤ to → f ≡ front_of (slice from to v) → f ≡ Dead → from < to
+dead-loses v n from to f h is e = dead-some v n from to h (sym is ∙ e)
 
-  dead : front_of (slice (from d) (to d) (a d ++ b d)) ≡ Dead
-  dead = sym d.Front-at.ensures ∙ c.in-Dead.is
-
-  loses : from d < to d
-  loses = dead-some (a d ++ b d) (length (a d)) (from d) (to d) (omega arith) dead
-
--- where the bytes up to the next test are taken, as far as they are there
-module _ (c : goal.After-smaller-to invariant-loop decreases-loop) where
-  abbrev p : tie.After-front-at invariant-loop decreases-loop
-  p = c
-
-  abbrev v : List ℕ
-  v = a p ++ b p
-
-  abbrev k : ℕ
-  k = c.smaller-to.result
-
-  undecided : Missing v (from p) (to p) c.missing.result
-  undecided =
-      c.missing.ensures (omega arith) (omega arith) (sym p.Front-at.ensures ∙ c.in-Open.is)
-
+-- where the bytes up to the next test are taken, as far as they are there: k of the m that it is short of
+module _ (v : List ℕ) (n from to m k : ℕ) (undecided : Missing v from to m) (least : k ≡ m - (m - (length v - to)))
+    (order : from ≤ to) (held : n ≤ to) (below : to < length v) where
   some : 0 < k
   some = omega (arith, undecided.some)
 
-  there : to p + k ≤ length v
-  there = omega (arith, length-append (a p) (b p))
+  there : to + k ≤ length v
+  there = omega arith
 
-  stays : (t : ℕ) → to p ≤ t → t < to p + k → front_of (slice (from p) t v) ≡ Open
+  stays : (t : ℕ) → to ≤ t → t < to + k → front_of (slice from t v) ≡ Open
   stays t h j = undecided.undecided t h (omega arith) (omega (arith, there))
+
+  room : to + k ≤ from + max_frame
+  room = waits-room v n from to k order some there stays
+
+  waits : feeding_at v n from to ≡ feeding_at v n from (to + k)
+  waits = feeding-waits-at v n from to k order there held stays
 
 pub overflow_add-all : goal.overflow_add-all
 overflow_add-all c = omega arith
@@ -79,43 +48,62 @@ loop-from-init c =
 
 pub returns-in-Whole : goal.returns-in-Whole
 returns-in-Whole c =
-    let whole : front_of (slice (from c) (to c) (a c ++ b c)) ≡ Whole = sym c.Front-at.ensures ∙ c.in-Whole.is in
+    let o = c.args in
+    let l = c.loop-from in
+    let v = o.a.now ++ o.b.now in
+    let whole : front_of (slice l.from l.to v) ≡ Whole = sym c.front_at-f.ensures ∙ c.in-Whole.is in
     record {
       stop = record { ordered = omega arith; within = omega arith; taken = omega arith; small = omega arith; whole = λ _. whole };
-      is = goes_on c ∙ feeding-whole-at (a c ++ b c) (length (a c)) (from c) (to c) whole;
+      is = l.invariant.1.1.1.1 ∙ feeding-whole-at v (length o.a.now) l.from l.to whole;
     }
 
 pub overflow_add-from : goal.overflow_add-from
 overflow_add-from c = omega arith
 
 pub next_head_of-from-requires : goal.next_head_of-from-requires
-next_head_of-from-requires c = omega (arith, loses c)
+next_head_of-from-requires c =
+    let o = c.args in
+    let l = c.loop-from in
+    let some =
+    dead-loses (o.a.now ++ o.b.now) (length o.a.now) l.from l.to c.front_at-f.result (omega arith) c.front_at-f.ensures c.in-Dead.is in
+    omega (arith, some)
 
 pub loop-from-smaller-in-Dead : goal.loop-from-smaller-in-Dead
 loop-from-smaller-in-Dead c =
-    let o = c.next_head_of-from.ensures.ordered in
-    omega (arith, loses c)
+    let o = c.args in
+    let l = c.loop-from in
+    let some =
+    dead-loses (o.a.now ++ o.b.now) (length o.a.now) l.from l.to c.front_at-f.result (omega arith) c.front_at-f.ensures c.in-Dead.is in
+    let ordered = c.next_head_of-from.ensures.ordered in
+    omega (arith, some)
 
 pub loop-from-preserved-in-Dead : goal.loop-from-preserved-in-Dead
 loop-from-preserved-in-Dead c =
-    let p = d c in
-    let v = a p ++ b p in
-    let n = length (a p) in
+    let x = c.args in
+    let l = c.loop-from in
+    let v = x.a.now ++ x.b.now in
+    let n = length x.a.now in
     let at = c.next_head_of-from in
     let o = at.ensures.ordered in
     let w = at.ensures.within in
-    let some = loses c in
+    let dead : front_of (slice l.from l.to v) ≡ Dead = sym c.front_at-f.ensures ∙ c.in-Dead.is in
+    let some = dead-some v n l.from l.to (omega arith) dead in
+    let size = length-append x.a.now x.b.now in
+    let end : l.to ≤ length v = omega (arith, size) in
     let on =
-    feeding-dead-at v n (from p) (to p) some (end p) (dead c)
-    ∙ feeding-headless-at v n (from p + 1) (to p) (n + length (b p)) at.result (omega arith) (end p) (omega arith)
-    (omega (arith, length-append (a p) (b p))) at.ensures
+    feeding-dead-at v n l.from l.to some end dead
+    ∙ feeding-headless-at v n (l.from + 1) l.to (n + length x.b.now) at.result (omega arith) end (omega arith) (omega (arith, size)) at.ensures
     ∙ ap (feeding_at v n at.result) (sym c.larger-to.ensures) in
-    (omega arith, (omega arith, (omega arith, (omega arith, goes_on p ∙ on))))
+    (omega arith, (omega arith, (omega arith, (omega arith, l.invariant.1.1.1.1 ∙ on))))
 
 pub returns-then-to-all : goal.returns-then-to-all
 returns-then-to-all c =
-    let undecided : front_of (slice (from c) (to c) (a c ++ b c)) ≡ Open = sym c.Front-at.ensures ∙ c.in-Open.is in
-    let last : to c ≡ length (a c ++ b c) = omega (arith, length-append (a c) (b c)) in
+    let o = c.args in
+    let l = c.loop-from in
+    let v = o.a.now ++ o.b.now in
+    let n = length o.a.now in
+    let undecided : front_of (slice l.from l.to v) ≡ Open = sym c.front_at-f.ensures ∙ c.in-Open.is in
+    let last : l.to ≡ length v = omega (arith, length-append o.a.now o.b.now) in
     record {
       stop = record {
         ordered = omega arith;
@@ -125,9 +113,9 @@ returns-then-to-all c =
         whole = λ e. absurd (false≢true e);
       };
       is =
-          goes_on c
-          ∙ feeding-ends-at (a c ++ b c) (length (a c)) (from c) (to c) last undecided
-          ∙ ap (λ (k : ℕ). without_frame (k - length (a c)) (slice (from c) k (a c ++ b c)) (from c)) c.if-to-all.true;
+          l.invariant.1.1.1.1
+          ∙ feeding-ends-at v n l.from l.to last undecided
+          ∙ ap (λ (k : ℕ). without_frame (k - n) (slice l.from k v) l.from) c.if-to-all.true;
     }
 
 pub overflow_sub-all : goal.overflow_sub-all
@@ -137,11 +125,34 @@ pub overflow_add-to : goal.overflow_add-to
 overflow_add-to c = omega arith
 
 pub loop-from-smaller : goal.loop-from-smaller
-loop-from-smaller c = omega (arith, some c)
+loop-from-smaller c =
+    let undecided = c.missing.ensures (omega arith) (omega arith) (sym c.front_at-f.ensures ∙ c.in-Open.is) in
+    omega (arith, undecided.some)
 
 pub loop-from-preserved : goal.loop-from-preserved
 loop-from-preserved c =
-    let q = p c in
-    let room = waits-room (v c) (length (a q)) (from q) (to q) (k c) (omega arith) (some c) (there c) (stays c) in
-    let on = feeding-waits-at (v c) (length (a q)) (from q) (to q) (k c) (omega arith) (there c) (omega arith) (stays c) in
-    (omega arith, (omega arith, (omega arith, (room, goes_on q ∙ on))))
+    let o = c.args in
+    let l = c.loop-from in
+    let v = o.a.now ++ o.b.now in
+    let n = length o.a.now in
+    let k = c.smaller-to.result in
+    let m = c.missing.result in
+    let size = length-append o.a.now o.b.now in
+    let undecided = c.missing.ensures (omega arith) (omega arith) (sym c.front_at-f.ensures ∙ c.in-Open.is) in
+    let least : k ≡ m - (m - (length v - l.to)) = omega (arith, size, c.smaller-to.ensures) in
+    let order : l.from ≤ l.to = omega arith in
+    let held : n ≤ l.to = omega arith in
+    let below : l.to < length v = omega (arith, size) in
+    let more = there v n l.from l.to m k undecided least order held below in (
+      omega arith,
+      (
+        omega (arith, more, size),
+        (
+          omega arith,
+          (
+            room v n l.from l.to m k undecided least order held below,
+            l.invariant.1.1.1.1 ∙ waits v n l.from l.to m k undecided least order held below,
+          ),
+        ),
+      ),
+    )

@@ -3,8 +3,6 @@ use native.Mathlib.Omega.{arith}
 use Rattle.frames.proofs.Stretches.{headless-none, headless-next}
 use Rattle.frames.proofs.search.first_head.Goals as goal
 
-}
-
 pub loop-i-init : goal.loop-i-init
 loop-i-init c = let o = c.args in headless-none o.s.now o.from o.to (omega arith)
 
@@ -22,3 +20,4 @@ returns c = let h = c.loop-i.invariant in record {
   ordered = omega arith;
   within = omega arith;
   none = λ i p q. h.none i p (omega arith);
+}

@@ -4,74 +4,93 @@ use mathlib.Core.Bool.{Bool, cond}
 use mathlib.Core.List.{List, ◌++◌}
 use Prim.Native.Nat.{ℕ, ◌+◌, ◌-◌, ◌≤◌}
 use native.Mathlib.Omega.{arith}
-use lib.ListN.{length, take, drop, length-set}
-use lib.Seq.{length-take-le}
-use Rattle.fronts.specs.Frame.{max_data, header_size, frame_size, Frame, unsummed, encode}
-use Rattle.frames.specs.Buffer.{written_size, written_room}
-use Rattle.frames.proofs.Writes.{writable-fits, unwritable_long, unwritable_narrow, copied, same_size, finished}
+use Prim.Native.Nat.{min}
+use lib.ListN.{length, take, drop, set, length-set, length-append, length-drop, length-take}
+use lib.Seq.{sets, sets-eq, length-take-le}
+use Rattle.fronts.specs.Frame.{max_data, header_size, frame_size, Frame, unsummed, encode, sum_byte}
+use Rattle.frames.specs.Buffer.{Written, written_size, written_room}
+use Rattle.frames.proofs.Writes.{writable-fits, unwritable_long, unwritable_narrow, header, copied, same_size, finished}
 use Rattle.frames.proofs.writer.write.Goals as goal
 
--- what is asked of the writer
-abbrev frame : goal.Start → Frame
-frame c = record { version = c.args.version; command = c.args.command; payload = c.args.«data».now }
-
-abbrev room : goal.Start → List ℕ
-room c = c.args.room.now
-
--- the room once header and data are written
-module _ (c : goal.After-copy) where
-  abbrev start : tie.Start
-  start = c
-
-  abbrev f : Frame
-  f = frame start
-
+-- the room once header and data are written, at as many bytes as were copied
+module _ (f : Frame) (room headed p : List ℕ) (small : length f.payload ≤ max_data) (fits : frame_size (length f.payload) ≤ length room)
+    (h : headed ≡ sets room 0 (header f)) where
   abbrev n : ℕ
   n = length f.payload
 
-  small : n ≤ max_data
-  small = omega arith
+  abbrev part : List ℕ
+  part = take (6 + n - 6) (drop 6 headed)
 
-  fits : frame_size n ≤ length (room start)
-  fits = omega arith
-
-  abbrev headed : List ℕ
-  headed = c.write_header.new.room
+  part_size : length part ≡ n
+  part_size =
+      let whole : headed ≡ header f ++ drop 6 room = h ∙ sets-eq (header f) room 0 (omega arith) in
+      omega (
+        arith,
+        ap length whole,
+        length-append (header f) (drop 6 room),
+        length-drop 6 room,
+        length-drop 6 headed,
+        length-take (6 + n - 6) (drop 6 headed),
+      )
 
   abbrev filled : List ℕ
-  filled = take 6 headed ++ (c.copy.new.to ++ drop (6 + n - 6) (drop 6 headed))
+  filled = take 6 headed ++ (p ++ drop (6 + n - 6) (drop 6 headed))
 
-  filled_is : filled ≡ unsummed f ++ drop (header_size + n) (room start)
-  filled_is =
-      copied f (room start) fits (6 + n - 6) headed c.copy.new.to (omega arith)
-      c.write_header.ensures c.copy.ensures.copied
+  module _ (k : ℕ) (count : k ≡ min n (length part)) (e : p ≡ take k f.payload ++ drop k part) where
+    filled_is : filled ≡ unsummed f ++ drop (header_size + n) room
+    filled_is =
+        let all : k ≡ n = omega (arith, part_size) in
+        copied f room fits (6 + n - 6) headed p (omega arith) h (e ∙ ap (λ (i : ℕ). take i f.payload ++ drop i part) all)
+
+    filled_size : length filled ≡ length room
+    filled_size = same_size f room fits filled filled_is
+
+    filled_front : 6 + n ≡ length (take (6 + n) filled)
+    filled_front = sym (length-take-le (6 + n) filled (omega (arith, filled_size)))
+
+    written : (t : ℕ) → t ≡ sum_byte (take (header_size + n) filled) → Written f room (7 + n) (set filled (6 + n) t)
+    unfolding written_size written_room
+    written t is =
+        let yes = writable-fits f room small fits in
+        let done = finished f room fits filled filled_is t is in
+        record {
+          gives = rw yes;
+          leaves = done ∙ sym (ap (λ (b : Bool). cond b (encode f ++ drop (frame_size n) room) room) yes);
+        }
 
 pub returns-then-n-gt-MAX_DATA : goal.returns-then-n-gt-MAX_DATA
 unfolding written_size written_room
 returns-then-n-gt-MAX_DATA c =
-    let e = unwritable_long (frame c) (room c) c.if-n-gt-MAX_DATA.true in
+    let o = c.args in
+    let e = unwritable_long (record { version = o.version; command = o.command; payload = o.«data».now }) o.room.now c.if-n-gt-MAX_DATA.true in
     record { gives = rw e; leaves = rw e }
 
 pub returns-then-room-size : goal.returns-then-room-size
 unfolding written_size written_room
 returns-then-room-size c =
-    let e = unwritable_narrow (frame c) (room c) (omega arith) (omega arith) in
+    let o = c.args in
+    let e =
+    unwritable_narrow (record { version = o.version; command = o.command; payload = o.«data».now }) o.room.now (omega arith)
+    (omega arith) in
     record { gives = rw e; leaves = rw e }
 
 pub slice_bounds-sum-end-2 : goal.slice_bounds-sum-end-2
 slice_bounds-sum-end-2 c =
-    sym (length-take-le (6 + n c) (filled c) (omega (arith, same_size (f c) (room (start c)) (fits c) (filled c) (filled_is c), fits c)))
+    let o = c.args in
+    filled_front (record { version = o.version; command = o.command; payload = o.«data».now }) o.room.now c.write_header.new.room
+    c.copy.new.to (omega arith) (omega arith) c.write_header.ensures c.copy.result c.copy.ensures.count c.copy.ensures.copied
 
 pub shape_of-room : goal.shape_of-room
 shape_of-room c =
-    length-set (filled c) (6 + n c) c.sum.result ∙ same_size (f c) (room (start c)) (fits c) (filled c) (filled_is c)
+    let o = c.args in
+    let f : Frame = record { version = o.version; command = o.command; payload = o.«data».now } in
+    length-set (filled f o.room.now c.write_header.new.room c.copy.new.to (omega arith) (omega arith) c.write_header.ensures)
+    (6 + length o.«data».now) c.sum.result
+    ∙ filled_size f o.room.now c.write_header.new.room c.copy.new.to (omega arith) (omega arith) c.write_header.ensures c.copy.result
+    c.copy.ensures.count c.copy.ensures.copied
 
 pub returns : goal.returns
-unfolding written_size written_room
 returns c =
-    let e = writable-fits (f c) (room (start c)) (small c) (fits c) in
-    let written = finished (f c) (room (start c)) (fits c) (filled c) (filled_is c) c.sum.result c.sum.ensures in
-    record {
-      gives = rw e;
-      leaves = written ∙ sym (ap (λ (b : Bool). cond b (encode (f c) ++ drop (frame_size (n c)) (room (start c))) (room (start c))) e);
-    }
+    let o = c.args in
+    written (record { version = o.version; command = o.command; payload = o.«data».now }) o.room.now c.write_header.new.room c.copy.new.to
+    (omega arith) (omega arith) c.write_header.ensures c.copy.result c.copy.ensures.count c.copy.ensures.copied c.sum.result c.sum.ensures

@@ -7,31 +7,30 @@ use Rattle.fronts.proofs.Fronts.{open_none}
 use Rattle.fronts.proofs.front.front_at.Goals as goal
 
 -- where the bytes end
-module _ (c : goal.After-smaller-end) where
-  abbrev o : tie.Start
-  o = c
-
+module _ (a b : List ℕ) (from to end : ℕ) (is : end ≡ to - (to - (length a + length b))) where
   abbrev all : List ℕ
-  all = o.args.a.now ++ o.args.b.now
+  all = a ++ b
 
-  abbrev end : ℕ
-  end = c.smaller-end.result
+  size : length all ≡ length a + length b
+  size = length-append a b
 
-  size : length all ≡ length o.args.a.now + length o.args.b.now
-  size = length-append o.args.a.now o.args.b.now
-
-  within : slice o.args.from o.args.to all ≡ slice o.args.from end all
+  within : slice from to all ≡ slice from end all
   within =
-      slice-within o.args.from o.args.to all
-      ∙ ap (λ (n : ℕ). slice o.args.from n all) (ap (λ (n : ℕ). o.args.to - (o.args.to - n)) size ∙ sym c.smaller-end.ensures)
+      slice-within from to all
+      ∙ ap (λ (n : ℕ). slice from n all) (ap (λ (n : ℕ). to - (to - n)) size ∙ sym is)
+
+  none : end < from → length (slice from end all) < 1
+  none h = omega (arith, length-drop from (take end all), length-take-le end all (omega (arith, size, is)))
 
 pub returns-then-end-from : goal.returns-then-end-from
 returns-then-end-from c =
-    let from = (o c).args.from in
-    let part = take (end c) (all c) in
-    let none : length (slice from (end c) (all c)) < 1 =
-    omega (arith, length-drop from part, length-take-le (end c) (all c) (omega (arith, size c, c.smaller-end.ensures))) in
-    sym (ap front_of (within c) ∙ open_none (slice from (end c) (all c)) none)
+    let o = c.args in
+    let end = c.smaller-end.result in
+    let is = c.smaller-end.ensures in
+    sym (ap front_of (within o.a.now o.b.now o.from o.to end is)
+    ∙ open_none (slice o.from end (o.a.now ++ o.b.now)) (none o.a.now o.b.now o.from o.to end is c.if-end-from.true))
 
 pub returns : goal.returns
-returns c = c.front_within.ensures ∙ ap front_of (sym (within c))
+returns c =
+    let o = c.args in
+    c.front_within.ensures ∙ ap front_of (sym (within o.a.now o.b.now o.from o.to c.smaller-end.result c.smaller-end.ensures))

@@ -11,7 +11,7 @@ pub loop-i-preserved : goal.loop-i-preserved
 loop-i-preserved c =
     let s = c.args.s.now in (
       search rules,
-      c.wrapping_add_u8-total.ensures ∙ ap (λ (n : ℕ). (n + get_or s c.loop-i.i 0) % 256) c.loop-i.invariant.1
+      c.wrapping_add_u8-total.ensures.value ∙ ap (λ (n : ℕ). (n + get_or s c.loop-i.i 0) % 256) c.loop-i.invariant.1
           ∙ sum-next s c.loop-i.i c.loop-i-test.true,
     )
 
