@@ -13,7 +13,7 @@ unfolding data_fb
 returns c =
     let r = c.args.r in
     let named = c.named_fb.ensures in
-    let begun = c.with.ensures ∙ with_field 0xFB (named_fb r) (bytes32 r.length) named.0
+    let begun = c.with.ensures ∙ with_field 0xFB (named_fb r) (bytes32 r.length) named.value
     c.bytes32-length.ensures (omega arith) in
     let n = length-append (named_fb r) (bytes32 r.length) in
     c.with-2.ensures ∙ with_field 0xFB (named_fb r ++ bytes32 r.length) (bytes32 r.crc) begun
