@@ -16,19 +16,20 @@ length-kept b c from to n i down there some e =
     let less : i ≤ length (drop from b) = rw length-drop (omega arith) in
     ap length e ∙ length-paste b to (drop from b) i (omega arith) less
 
-fits : (c : goal.After-slice_known-1 invariant-loop decreases-loop) → length c.loop-i.b ≡ length c.args.b.now
-fits c =
-    let l = c.loop-i in
-    length-kept c.args.b.now l.b c.args.from c.args.to c.args.n l.i c.requires.0 c.requires.1 l.invariant.0 l.invariant.1
-
 pub loop-i-init : goal.loop-i-init
 loop-i-init c = (omega arith, paste-zero c.args.b.now c.args.to (drop c.args.from c.args.b.now))
 
 pub bounds-b-from : goal.bounds-b-from
-bounds-b-from c = omega (arith, fits c)
+bounds-b-from c =
+    let l = c.loop-i in
+    let kept = length-kept c.args.b.now l.b c.args.from c.args.to c.args.n l.i c.requires.0 c.requires.1 l.invariant.0 l.invariant.1 in
+    omega (arith, kept)
 
 pub bounds-b-to : goal.bounds-b-to
-bounds-b-to c = omega (arith, fits c)
+bounds-b-to c =
+    let l = c.loop-i in
+    let kept = length-kept c.args.b.now l.b c.args.from c.args.to c.args.n l.i c.requires.0 c.requires.1 l.invariant.0 l.invariant.1 in
+    omega (arith, kept)
 
 pub loop-i-preserved : goal.loop-i-preserved
 loop-i-preserved c =

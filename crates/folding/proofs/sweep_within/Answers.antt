@@ -13,15 +13,14 @@ use Rattle.folding.proofs.Turns.{swept-more}
 use Rattle.folding.proofs.sweep_within.Goals as goal
 
 pub loop-i-init : goal.loop-i-init
-loop-i-init c =
-    (
-      omega arith,
-      (
-        refl,
-        ap (λ (p : ℕ). swept c.args.offsets.now p c.args.s.now c.args.b.now)
-            (sym (add-zero c.args.at)),
-      ),
-    )
+loop-i-init c = (
+  omega arith,
+  (
+    refl,
+    ap (λ (p : ℕ). swept c.args.offsets.now p c.args.s.now c.args.b.now)
+        (sym (add-zero c.args.at)),
+  ),
+)
 
 pub gather-sum-requires : goal.gather-sum-requires
 gather-sum-requires c =
