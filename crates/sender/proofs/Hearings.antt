@@ -1,6 +1,6 @@
 -- What a reply comes to, by its fields. Assumes nothing.
 use mathlib.Core.Path.{◌≡◌, refl, subst, ◌∙◌}
-use mathlib.Core.Bool.{true, and-eq-true_iff, or_true}
+use mathlib.Core.Bool.{true, and-eq-true_iff, or-true}
 use mathlib.Core.Logic.{⊎_elim}
 use mathlib.Core.List.{List}
 use Prim.Native.Nat.{ℕ, ◌+◌}
@@ -66,7 +66,7 @@ module _ (s : Sender) (image b : List ℕ) where
       let offset = (fields_fc (data_at b)).offset in
       let asked = eqb offset s.position.place in
       judged Placing g.heard
-      ∙ ⊎_elim (λ same. simp (eq-eqb offset s.position.place same)) (λ none. simp (eq-eqb offset 0 none, or_true asked)) g.offset
+      ∙ ⊎_elim (λ same. simp (eq-eqb offset s.position.place same)) (λ none. simp (eq-eqb offset 0 none, or-true asked)) g.offset
 
   pub packet-granted : PacketGranted s image b
       → after_reply s image b ≡ go_on (onward s (s.position.place + next_size s) (s.position.number + 1))

@@ -1,15 +1,11 @@
 -- What is known by the phase. Assumes nothing.
 use mathlib.Core.Path.{◌≡◌, refl}
 use mathlib.Core.Bool.{true, false}
-use mathlib.Core.List.{[], ◌∷◌}
 use Prim.Native.Nat.{ℕ}
 use native.Mathlib.Omega.{arith}
-use types.Run.{OneOf, miss}
-use denote.Enum.Declared.{tag_of}
 use Rattle.sender.specs.declared.phase.Phase.{Phase}
 use Rattle.sender.specs.declared.phase.Phase.TheVariants.{Asking, Telling, Placing, Sending, Ending, Done, GivenUp}
 use Rattle.sender.specs.Phases.{by_phase, is_final}
-use Rattle.sender.specs.contracts.phase.Phase.{the_type}
 
 -- what holds of each phase's choice holds of the choice
 pub of_phase : {A : Type 0} (P : A → Type 0) (p : Phase) (a b c d e f g : A) → (p ≡ Asking → P a) → (p ≡ Telling → P b)
@@ -42,34 +38,35 @@ open_choice Ending a f g is = refl
 open_choice Done a f g is = let z : ◌≡◌ {A = ℕ} 0 1 = cc in absurd (omega arith)
 open_choice GivenUp a f g is = let z : ◌≡◌ {A = ℕ} 0 1 = cc in absurd (omega arith)
 
--- ---- the phases that the last arm of a match, `_`, is left for; they are counted from 0 on
+-- ---- the phases that the last arm of a match, `_`, is left for: those that no arm before it took
 
 -- all but done and given up
-pub left_open : (p : Phase) → OneOf (0 ∷ 1 ∷ 2 ∷ 3 ∷ 4 ∷ []) (tag_of the_type p) → is_final p ≡ false
-left_open Asking k = refl
-left_open Telling k = refl
-left_open Placing k = refl
-left_open Sending k = refl
-left_open Ending k = refl
-left_open Done k = absurd (miss (0 ∷ 1 ∷ 2 ∷ 3 ∷ 4 ∷ []) 5 tt k)
-left_open GivenUp k = absurd (miss (0 ∷ 1 ∷ 2 ∷ 3 ∷ 4 ∷ []) 6 tt k)
+pub left_open : (p : Phase) → (p ≡ Done → ⊥) → (p ≡ GivenUp → ⊥) → is_final p ≡ false
+left_open Asking done given_up = refl
+left_open Telling done given_up = refl
+left_open Placing done given_up = refl
+left_open Sending done given_up = refl
+left_open Ending done given_up = refl
+left_open Done done given_up = absurd (done refl)
+left_open GivenUp done given_up = absurd (given_up refl)
 
 -- these two
-pub left_final : (p : Phase) → OneOf (5 ∷ 6 ∷ []) (tag_of the_type p) → is_final p ≡ true
-left_final Asking k = absurd (miss (5 ∷ 6 ∷ []) 0 tt k)
-left_final Telling k = absurd (miss (5 ∷ 6 ∷ []) 1 tt k)
-left_final Placing k = absurd (miss (5 ∷ 6 ∷ []) 2 tt k)
-left_final Sending k = absurd (miss (5 ∷ 6 ∷ []) 3 tt k)
-left_final Ending k = absurd (miss (5 ∷ 6 ∷ []) 4 tt k)
-left_final Done k = refl
-left_final GivenUp k = refl
+pub left_final : (p : Phase) → (p ≡ Asking → ⊥) → (p ≡ Telling → ⊥) → (p ≡ Placing → ⊥) → (p ≡ Sending → ⊥) → (p ≡ Ending → ⊥)
+    → is_final p ≡ true
+left_final Asking a t p s e = absurd (a refl)
+left_final Telling a t p s e = absurd (t refl)
+left_final Placing a t p s e = absurd (p refl)
+left_final Sending a t p s e = absurd (s refl)
+left_final Ending a t p s e = absurd (e refl)
+left_final Done a t p s e = refl
+left_final GivenUp a t p s e = refl
 
 -- all but placing and sending
-pub left-free : {A : Type 0} (p : Phase) (a c d : A) → OneOf (0 ∷ 1 ∷ 4 ∷ 5 ∷ 6 ∷ []) (tag_of the_type p) → by_phase p a a c d a a a ≡ a
-left-free Asking a c d k = refl
-left-free Telling a c d k = refl
-left-free Placing a c d k = absurd (miss (0 ∷ 1 ∷ 4 ∷ 5 ∷ 6 ∷ []) 2 tt k)
-left-free Sending a c d k = absurd (miss (0 ∷ 1 ∷ 4 ∷ 5 ∷ 6 ∷ []) 3 tt k)
-left-free Ending a c d k = refl
-left-free Done a c d k = refl
-left-free GivenUp a c d k = refl
+pub left-free : {A : Type 0} (p : Phase) (a c d : A) → (p ≡ Placing → ⊥) → (p ≡ Sending → ⊥) → by_phase p a a c d a a a ≡ a
+left-free Asking a c d placing sending = refl
+left-free Telling a c d placing sending = refl
+left-free Placing a c d placing sending = absurd (placing refl)
+left-free Sending a c d placing sending = absurd (sending refl)
+left-free Ending a c d placing sending = refl
+left-free Done a c d placing sending = refl
+left-free GivenUp a c d placing sending = refl

@@ -4,4 +4,4 @@ use Rattle.sender.proofs.Phases.{left_open}
 use Rattle.sender.proofs.phase.is_final.Goals as goal
 
 pub returns-in_default : goal.returns-in_default
-returns-in_default c = sym (left_open c.args.phase c.in_default.keys3)
+returns-in_default c = sym (left_open c.args.phase c.in_default.not-Done c.in_default.not-GivenUp)

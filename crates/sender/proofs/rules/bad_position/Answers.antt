@@ -16,4 +16,4 @@ pub returns-in_default : goal.returns-in_default
 returns-in_default c =
     let p = c.args.position in
     let o = c.args.offer in
-    sym (left-free p.phase false (ltb o.length p.place) (bad_packet p o) c.in_default.keys3)
+    sym (left-free p.phase false (ltb o.length p.place) (bad_packet p o) c.in_default.not-Placing c.in_default.not-Sending)

@@ -12,7 +12,7 @@ returns-in_default c =
     let p = c.args.p in
     -- the match's other arm is for `Right` and `Wrong`
     let finished : p.verdict ≡ Unfinished → ⊥ =
-    λ e. elim c.in_default.keys2 [
+    λ e. elim c.in_default-own.keys2 [
       | inl right ↦ (let z : ◌≡◌ {A = ℕ} 0 1 = cc in omega arith)
       | inr wrong ↦
           (let z : ◌≡◌ {A = ℕ} 0 2 = cc in omega arith)

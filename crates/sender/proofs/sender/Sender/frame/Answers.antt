@@ -33,5 +33,5 @@ returns-in_default c =
     let a = c.args in
     let phase = a.self.position.phase in
     let none : request_of a.self a.image.now ≡ no_frame =
-    final_choice phase _ _ _ _ _ no_frame (left_final phase c.in_default.keys6) in
+    final_choice phase _ _ _ _ _ no_frame (left_final phase c.in_default.not-Asking c.in_default.not-Telling c.in_default.not-Placing c.in_default.not-Sending c.in_default.not-Ending) in
     c.empty.ensures ∙ no_data_lem 0 0 ∙ sym (ap finished none)

@@ -36,4 +36,4 @@ unfolding judged_in
 returns-in_default c =
     let s = c.args.self in
     let phase = s.position.phase in
-    c.wrong_reply.ensures ∙ sym (final_choice phase _ _ _ _ _ (nothing_decided s wrong_reply) (left_final phase c.in_default.keys6))
+    c.wrong_reply.ensures ∙ sym (final_choice phase _ _ _ _ _ (nothing_decided s wrong_reply) (left_final phase c.in_default.not-Asking c.in_default.not-Telling c.in_default.not-Placing c.in_default.not-Sending c.in_default.not-Ending))

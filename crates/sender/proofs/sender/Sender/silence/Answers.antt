@@ -38,6 +38,6 @@ unfolding after_silence silent_in
 returns-in_default c =
     let s = c.args.self in
     let phase = s.position.phase in
-    let still = left_open phase c.in_default.keys3 in
+    let still = left_open phase c.in_default.not-Done c.in_default.not-GivenUp in
     simp (← c.refusal-refusal.ensures, eq-eqb _ _ c.if-refusal-ne-ACCEPTED.false)
     (c.unheard.ensures ∙ sym (open_choice phase (unheard s) (decided decision.Done s) (decided decision.GivenUp s) still))
