@@ -65,13 +65,9 @@ const KINDS: [Kind; 3] = [
     },
 ];
 
-#[link(name = "crc32", kind = "static")]
+#[link(name = "lend", kind = "static")]
 extern "C" {
     fn checksum(bytes: *const u8, count: usize) -> u32;
-}
-
-#[link(name = "crc16", kind = "static")]
-extern "C" {
     fn modbus(bytes: *const u8, count: usize) -> u16;
     fn ccitt(bytes: *const u8, count: usize) -> u16;
 }

@@ -24,7 +24,7 @@ fn main() -> io::Result<()> {
     };
     let folder = Path::new(folder);
     println!("Medians of {} runs each, interleaved. The first row of each group is 1.00.", timing::RUNS);
-    println!("Replay, calls on a record and `crc32`, `crc16`: built by `rt check` and `rt staticlib`. Model: `rustc -O`, no other flag.");
+    println!("Replay, calls on a record and `crc32`, `crc16`: built by `rt run` and `rt lib`. Model: `rustc -O`, no other flag.");
     println!("Each replay is a process of its own and clears its buffers (area, input, output) at its start.\n");
     println!("| what | median ms | ratio |\n|---|---|---|");
     replays::sound(replay, model, folder)?;

@@ -1,9 +1,9 @@
-//! A record for one board, with its room and area: what a copy of `controller` lends.
+//! A record for one board, with its room and area: what the static library `lend` gives (bench/run).
 
 pub const AREA: usize = 65_536;
 const ROOM: usize = 33;
 
-#[link(name = "controller", kind = "static")]
+#[link(name = "lend", kind = "static")]
 extern "C" {
     fn feed_record(bytes: *const u8, count: usize, cut: usize, room: *mut u8, size: usize, area: *mut u8, length: usize) -> usize;
     fn check_record(

@@ -11,6 +11,11 @@ HERE = pathlib.Path(__file__).resolve().parent
 SECONDS_PER_RUN = 60
 
 
+def built(name):
+    """Where `rt ci`, and `rt run` in the program's folder, leave this program."""
+    return HERE.parent / "crates" / name / "out" / name
+
+
 def build_model(folder):
     """The model's binary: built by rustc into the folder, or the one that the environment variable MODEL names."""
     if os.environ.get("MODEL"):
