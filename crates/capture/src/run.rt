@@ -28,8 +28,14 @@ fn read_into(mut stdin: Stdin, input: &mut [u8; INPUT]) -> Got
     ensures { result.count ≤ length input.new }
 {
     match stdin.read(input) {
-        Ok(count) => Got { count, failed: false },
-        Err(_) => Got { count: 0, failed: true },
+        Ok(count) => Got {
+            count,
+            failed: false,
+        },
+        Err(_) => Got {
+            count: 0,
+            failed: true,
+        },
     }
 }
 

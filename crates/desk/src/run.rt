@@ -111,13 +111,7 @@ impl Run {
 
     // The lines go out first: a read may wait long, and who reads them should not wait with it. A failed read ends the session; what of a
     // line has come by then is no line.
-    fn read(
-        mut self,
-        stdin: Stdin,
-        lines: Lines,
-        input: &mut [u8; INPUT],
-        out: &[u8; SIZE],
-    ) -> Run
+    fn read(mut self, stdin: Stdin, lines: Lines, input: &mut [u8; INPUT], out: &[u8; SIZE]) -> Run
         ensures { InputRead self «lines» input.old result input.new }
     {
         let old = self.desk;

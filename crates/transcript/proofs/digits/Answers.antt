@@ -12,5 +12,5 @@ pub returns : goal.returns
 returns c =
     let s = c.args.bytes.now in
     let hex = c.bytes-n.ensures in
-    let put = ap₂ (λ (n : ℕ) (d : List ℕ). take n d) hex.0 hex.1 ∙ hex_in_front s (replicate 1052 0) (omega arith) in
+    let put = ap₂ (λ (n : ℕ) (d : List ℕ). take n d) hex.value hex.room_after ∙ hex_in_front s (replicate 1052 0) (omega arith) in
     added_as (c.front.ensures ∙ put) c.text.ensures

@@ -6,8 +6,8 @@ use Rattle.transcript.proofs.stored.Goals as goal
 
 pub returns-then-is_same : goal.returns-then-is_same
 returns-then-is_same c =
-    c.Stored-of.ensures then one_as (ap as_in_image (sym c.if-is_same.true)) c.text.ensures
+    c.stored_of-told.ensures then one_as (ap as_in_image (sym c.if-is_same.true)) c.text.ensures
 
 pub returns : goal.returns
 returns c =
-    c.Stored-of.ensures then one_as (ap as_in_image (sym c.if-is_same.false)) c.text-2.ensures
+    c.stored_of-told.ensures then one_as (ap as_in_image (sym c.if-is_same.false)) c.text-2.ensures
