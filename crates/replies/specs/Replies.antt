@@ -1,5 +1,5 @@
 -- 01, "The six commands": the data of what the controller answers, and a reply as a frame. Assumes nothing.
-use Rattle.std.specs.Prelude.{◌≡◌, Bool, cond, List, [], ◌∷◌, ◌++◌, ℕ, ◌<◌, ltb, get_or, take}
+use Rattle.std.specs.Prelude.{◌≡◌, Bool, cond, List, [], ◌∷◌, ◌++◌, ℕ, ltb, get_or, take}
 use Rattle.fronts.specs.Frame.{Frame}
 use Rattle.sequences.specs.Numbers.{bytes16, bytes32}
 use Rattle.sequences.specs.Padding.{zeros}

@@ -1,5 +1,6 @@
 -- `ends::reply` meets its contract. Assumes nothing.
-use mathlib.Core.Path.{ap, ◌∙◌}
+use mathlib.Core.Path.{◌≡◌, ap, ◌∙◌}
+use native.Mathlib.Omega.{arith}
 use mathlib.Core.Bool.{true}
 use mathlib.Core.List.{List, ◌++◌}
 use Prim.Native.Nat.{ℕ}
@@ -14,4 +15,5 @@ pub returns : goal.returns
 returns c =
     let a = c.args in
     let made : List ℕ → Frame = λ b. record { to_sender = true; bytes = b; length = a.length } in
-    ap made (c.copy.ensures.copied ∙ ap (λ (s : List ℕ). s ++ drop (length a.room) (zeros max_frame)) (take-length a.room))
+    let all_copied : c.copy.result ≡ length a.room = omega (arith, c.copy.ensures.count) in
+    ap made ((rw all_copied at c.copy.ensures.copied) ∙ ap (λ (s : List ℕ). s ++ drop (length a.room) (zeros max_frame)) (take-length a.room))

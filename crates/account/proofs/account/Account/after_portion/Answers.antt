@@ -9,16 +9,8 @@ returns-in-Unfinished c = record { goes_on = λ _. (refl, refl); ends = λ other
 
 pub returns-in_default : goal.returns-in_default
 returns-in_default c =
-    let p = c.args.p in
-    -- the match's other arm is for `Right` and `Wrong`
-    let finished : p.verdict ≡ Unfinished → ⊥ =
-    λ e. elim c.in_default-own.keys2 [
-      | inl right ↦ (let z : ◌≡◌ {A = ℕ} 0 1 = cc in omega arith)
-      | inr wrong ↦
-          (let z : ◌≡◌ {A = ℕ} 0 2 = cc in omega arith)
-    ] in
     record {
-      goes_on = λ e. absurd (finished e);
+      goes_on = λ e. absurd (c.in_default.not-Unfinished e);
       ends = λ _. frame_added refl c.line_at-line.ensures
           c.with_line.ensures;
     }

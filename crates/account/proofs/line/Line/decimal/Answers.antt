@@ -11,5 +11,5 @@ text-requires c =
 pub returns : goal.returns
 returns c =
     let d = c.decimal-count in
-    adds-decimal c.args.n d.result d.new.out (omega arith) d.ensures.in_bounds.1 d.ensures.len d.ensures.1.1
+    adds-decimal c.args.n d.result d.new.out (omega arith) d.ensures.in_bounds.1 d.ensures.len d.ensures.digits
     c.text.ensures

@@ -4,11 +4,6 @@ use Rattle.account.specs.Texts.{Adds}
 use Rattle.account.proofs.Adding.{adds-reply, hex_count, no-reply}
 use Rattle.account.proofs.line.Line.reply.Goals as goal
 
-count : (c : goal.After-all-3-1) → c.bytes-n.result ≡ 2 * length c.args.reply.now
-count c =
-    let a = c.args in
-    hex_count a.self a.reply.now _ (omega arith) (omega arith) c.bytes-n.ensures.value
-
 pub returns-then-reply-eq0 : goal.returns-then-reply-eq0
 returns-then-reply-eq0 c =
     let a = c.args in
@@ -16,10 +11,15 @@ returns-then-reply-eq0 c =
     record { adds = subst (λ (t : List ℕ). Adds a.self t c.put.result) (sym none) c.put.ensures; count_bound = omega arith }
 
 pub overflow_add-result : goal.overflow_add-result
-overflow_add-result c = omega (arith, count c)
+overflow_add-result c =
+    let a = c.args in
+    omega (arith, hex_count a.self a.reply.now _ (omega arith) (omega arith) c.bytes-n.ensures.value)
 
 pub returns : goal.returns
 returns c =
     let a = c.args in
     let w = c.bytes-n.ensures in
-    record { adds = adds-reply a.self a.reply.now _ _ (omega arith) (omega arith) (omega arith) w.0 w.1; count_bound = omega (arith, count c) }
+    record {
+      adds = adds-reply a.self a.reply.now _ _ (omega arith) (omega arith) (omega arith) w.value w.room_after;
+      count_bound = omega (arith, hex_count a.self a.reply.now _ (omega arith) (omega arith) w.value);
+    }

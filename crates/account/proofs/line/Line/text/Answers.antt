@@ -1,5 +1,5 @@
 -- `account::line::Line::text` meets its contract. Assumes nothing.
-use Rattle.std.proofs.Common.{arith}
+use Rattle.std.proofs.Common.{◌≡◌, ◌-◌, length, take, drop, length-take, length-drop, arith}
 use Rattle.account.proofs.Adding.{adds_part}
 use Rattle.account.proofs.line.Line.text.Goals as goal
 
@@ -7,4 +7,7 @@ pub returns : goal.returns
 returns c =
     let a = c.args in
     let w = c.copy-n.ensures in
-    adds_part a.self a.text.now _ _ (omega arith) (omega arith) w.0 w.1
+    let behind = drop a.self.count a.self.bytes in
+    let all_copied : c.copy-n.result ≡ length a.text.now =
+    omega (arith, w.count, length-take (112 - a.self.count) behind, length-drop a.self.count a.self.bytes) in
+    adds_part a.self a.text.now _ _ (omega arith) (omega arith) all_copied (rw all_copied at w.copied)

@@ -7,4 +7,4 @@ pub returns : goal.returns
 returns c =
     let a = c.args in
     let left : ℕ → Unfed = λ n. record { at = n; end = a.self.unfed.end } in
-    record { keeps = refl; goes_on = refl; takes = ap left c.wrapping_add_usize-at.ensures; tells = c.after-account.ensures }
+    record { keeps = refl; goes_on = refl; takes = ap left c.wrapping_add_usize-at.ensures.value; tells = c.after-account.ensures }

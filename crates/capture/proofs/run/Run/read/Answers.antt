@@ -20,7 +20,7 @@ returns c =
       keeps = refl;
       writes = c.flush-account.ensures;
       starts = refl;
-      within = omega (arith, c.count.ensures.0.0);
+      within = omega (arith, c.read_into-got.ensures);
       goes_on = λ _. c.after_read.ensures.after_read;
       stops = λ e. absurd (false≢true (sym c.if-account.false ∙ e));
     }

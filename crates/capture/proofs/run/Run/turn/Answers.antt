@@ -6,41 +6,41 @@ use Rattle.capture.specs.declared.stage.Stage.{Stage}
 use Rattle.capture.specs.Runs.{Turned}
 use Rattle.capture.proofs.run.Run.turn.Goals as goal
 
-module _ (c : goal.Start) (r : Run) (input' after area : List ℕ) where
+module _ (run : Run) (input output area : List ℕ) (r : Run) (input' after area' : List ℕ) where
   abbrev Turns : Bool → Stage → Type 0
-  Turns b s = Turned b s c.args.self c.args.input.now c.args.output.now c.args.area.now r input' after area
+  Turns b s = Turned b s run input output area r input' after area'
 
   -- what holds while a check runs holds of a run whose check runs,
-  in-check : is_checking c.args.self.record ≡ true → Turns true c.args.self.stage
-      → Turns (is_checking c.args.self.record) c.args.self.stage
-  in-check e t = subst (λ (b : Bool). Turns b c.args.self.stage) (sym e) t
+  in-check : is_checking run.record ≡ true → Turns true run.stage
+      → Turns (is_checking run.record) run.stage
+  in-check e t = subst (λ (b : Bool). Turns b run.stage) (sym e) t
 
   -- and else what holds in a stage of a run that is in it
-  in-stage : (s : Stage) → is_checking c.args.self.record ≡ false → c.args.self.stage ≡ s → Turns false s
-      → Turns (is_checking c.args.self.record) c.args.self.stage
-  in-stage s none e t = subst (λ (b : Bool). Turns b c.args.self.stage) (sym none) (subst (λ (x : Stage). Turns false x) (sym e) t)
+  in-stage : (s : Stage) → is_checking run.record ≡ false → run.stage ≡ s → Turns false s
+      → Turns (is_checking run.record) run.stage
+  in-stage s none e t = subst (λ (b : Bool). Turns b run.stage) (sym none) (subst (λ (x : Stage). Turns false x) (sym e) t)
 
 pub returns-then-is_checking : goal.returns-then-is_checking
 returns-then-is_checking c =
-    in-check c _ _ _ _ (sym c.is_checking.ensures ∙ c.if-is_checking.true)
+    in-check c.args.self c.args.input.now c.args.output.now c.args.area.now _ _ _ _ (sym c.is_checking.ensures ∙ c.if-is_checking.true)
     (c.check.ensures, (refl, refl))
 
 pub returns-in-Feeding : goal.returns-in-Feeding
 returns-in-Feeding c =
-    in-stage c _ _ _ _ _ (sym c.is_checking.ensures ∙ c.if-is_checking.false)
+    in-stage c.args.self c.args.input.now c.args.output.now c.args.area.now _ _ _ _ _ (sym c.is_checking.ensures ∙ c.if-is_checking.false)
     c.in-Feeding.is c.feed.ensures
 
 pub returns-in-Quiet : goal.returns-in-Quiet
 returns-in-Quiet c =
-    in-stage c _ _ _ _ _ (sym c.is_checking.ensures ∙ c.if-is_checking.false)
+    in-stage c.args.self c.args.input.now c.args.output.now c.args.area.now _ _ _ _ _ (sym c.is_checking.ensures ∙ c.if-is_checking.false)
     c.in-Quiet.is (c.quiet.ensures, refl)
 
 pub returns-in-Ended : goal.returns-in-Ended
 returns-in-Ended c =
-    in-stage c _ _ _ _ _ (sym c.is_checking.ensures ∙ c.if-is_checking.false)
+    in-stage c.args.self c.args.input.now c.args.output.now c.args.area.now _ _ _ _ _ (sym c.is_checking.ensures ∙ c.if-is_checking.false)
     c.in-Ended.is (refl, (refl, (refl, refl)))
 
 pub returns-in-ReadFailed : goal.returns-in-ReadFailed
 returns-in-ReadFailed c =
-    in-stage c _ _ _ _ _ (sym c.is_checking.ensures ∙ c.if-is_checking.false)
+    in-stage c.args.self c.args.input.now c.args.output.now c.args.area.now _ _ _ _ _ (sym c.is_checking.ensures ∙ c.if-is_checking.false)
     c.in-ReadFailed.is (refl, (refl, (refl, refl)))

@@ -26,10 +26,11 @@ returns c =
     let given = ap (λ (x : Requested). framed_texts x.outcome x.length c.front.result.now c.front-2.result.now) call.ensures.value in
     let x = requested d.sender a.image.now (take n room) in
     let lent = ap₂ (λ (k : List ℕ) (s : List ℕ). framed_texts x.outcome x.length k s) before after in
-    let e = c.smaller-n.ensures in (
-      record {
+    let e = c.smaller-n.ensures in
+    record {
+      desk_told = record {
         leaves = refl;
         tells = c.begun-begun.ensures then texts_as (given ∙ lent ∙ ap line e) c.framed-self.ensures;
-      },
-      call.ensures.room_after ∙ ap left e,
-    )
+      };
+      room_after = call.ensures.room_after ∙ ap left e;
+    }

@@ -10,7 +10,7 @@ returns-then-phrase-eq-PORTION c = λ image. let f = c.portion.ensures in simp (
 
 pub returns-then-phrase-eq-REPORT : goal.returns-then-phrase-eq-REPORT
 unfolding watched
-returns-then-phrase-eq-REPORT c = λ image. let f = c.report.ensures in simp (ne_eqb _ _ c.if-phrase-eq-PORTION.false, eq-eqb _ _ c.if-phrase-eq-REPORT.true) (record { tells = f.0; leaves-room = f.1; leaves-area = refl; leaves-image = refl })
+returns-then-phrase-eq-REPORT c = λ image. let f = c.report.ensures in simp (ne_eqb _ _ c.if-phrase-eq-PORTION.false, eq-eqb _ _ c.if-phrase-eq-REPORT.true) (record { tells = f.desk_told; leaves-room = f.room_after; leaves-area = refl; leaves-image = refl })
 
 pub returns : goal.returns
 unfolding watched
