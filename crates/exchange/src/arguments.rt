@@ -2,6 +2,7 @@
 ghost use Rattle.std.specs.Prelude.{◌≡◌, ◌≤◌, length};
 ghost use Rattle.words.specs.Ranges.{InRange};
 
+use sequences::part::front;
 use std::env::{Env, FillError};
 use words::words::Words;
 
@@ -21,22 +22,34 @@ pub(crate) fn read(rt: &HostRuntime, word: &mut [u8]) -> Words
 {
     let mut words = Words::none();
     for i in 1..usize::MAX {
-        match rt.arg(i, word) {
-            Ok(n) => {
-                words = words.with_word(i, &word[..n]);
-            }
-            Err(FillError::NotPresent) => {
-                return words;
-            }
-            Err(FillError::TooLong) => {
-                words = words.refused(b"a word has at most 131072 bytes", &word[..0]);
-            }
+        let got = rt.arg(i, &mut *word);
+        if is_missing(got) {
+            return words;
         }
+        words = with_argument(words, i, got, word);
         if words.is_bad {
             return words;
         }
     }
     words
+}
+
+// Whether there is no argument at this place, nor behind it.
+fn is_missing(got: Result<usize, FillError>) -> bool {
+    match got {
+        Err(FillError::NotPresent) => true,
+        _ => false,
+    }
+}
+
+// With the argument at place i, as it was got into the room.
+fn with_argument(words: Words, i: usize, got: Result<usize, FillError>, word: &[u8]) -> Words
+    ensures { InRange words → InRange result }
+{
+    match got {
+        Ok(n) => words.with_word(i, front(word, n)),
+        Err(_) => words.refused(b"a word has at most 131072 bytes", word),
+    }
 }
 
 // Puts the argument at place i to the front of the room and answers its length, 0 where it is missing or too long.

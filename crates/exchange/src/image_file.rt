@@ -82,8 +82,7 @@ fn judged(rt: &HostRuntime, file: &mut File, n: usize, word: &[u8]) -> usize {
         }
         Ok(_) => {
             if n < MAX_IMAGE {
-                complaint::name(b"image is a file that can be read", word);
-                complaint::say(b"\n");
+                complaint::complain(b"image is a file that can be read", word);
                 return 0;
             }
             complaint::complain(b"image has at most 65536 bytes", word);

@@ -1,7 +1,6 @@
 // The link's script, as a word brings it.
 use crate::arguments::argument;
 use link::script::Script;
-use std::env::Env;
 
 // The script of the word at this place, which is put into the room; 0 says that there is none.
 pub(crate) fn script(rt: &HostRuntime, place: usize, word: &mut [u8]) -> Script {

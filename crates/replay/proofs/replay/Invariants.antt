@@ -5,8 +5,8 @@ use Rattle.replay.proofs.replay.Given as goal
 
 abbrev pub invariant-loop-turns : goal.invariant-loop-turns
 invariant-loop-turns l =
-    ReplayTurns (record { l.run = l.initial.run; l.input = l.initial.input; l.output = l.initial.output; l.area = l.initial.area }) (most_turns - l.turns)
-    (record { l.run = l.run; l.input = l.input; l.output = l.output; l.area = l.area })
+    ReplayTurns (record { run = l.initial.run; input = l.initial.input; output = l.initial.output; area = l.initial.area }) (most_turns - l.turns)
+    (record { run = l.run; input = l.input; output = l.output; area = l.area })
     × (l.turns ≤ most_turns)
 
 abbrev pub decreases-loop-turns : goal.decreases-loop-turns
