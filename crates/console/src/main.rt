@@ -13,8 +13,7 @@
 //     2 open 0 | boards=1 board0=1,0A,010002,010000,0000000000000000 opened=65536
 //     3 feed 0 taken=8 dropped=0 command=FE length=1 reply=55AA00FE00020A030C past=- area=- |
 //
-// docs/CONSOLE.md has every command and every field. A failed read or write is told on standard error. The exit status is 0 all the same:
-// a Rattle program has no other.
+// docs/CONSOLE.md has every command and every field. A failed read or write is told on standard error. The exit status is 0 all the same.
 use desk::desk::{IMAGE, MEMORY};
 use desk::run::Run;
 use lines::lines::INPUT;

@@ -27,7 +27,7 @@
 //     area equals the image
 //
 // A word that is not taken, an image that cannot be read and a failed write are told on standard error. The exit status is 0 all the
-// same: a Rattle program has no other.
+// same.
 mod arguments;
 mod image_file;
 mod letters;

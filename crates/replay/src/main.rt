@@ -8,8 +8,7 @@
 //     6 FE 0 55AA00FE00020A030C
 //     end dropped 6
 //
-// A failed read or write is told on standard error and ends the program without the last line. Its exit status is 0 all the same: a
-// Rattle program has no other.
+// A failed read or write is told on standard error and ends the program without the last line. Its exit status is 0 all the same.
 ghost use Rattle.std.specs.Prelude.{◌≡◌};
 ghost use Rattle.controller.specs.Bench.{fresh};
 ghost use Rattle.capture.specs.Runs.{start_run, Replayed};
