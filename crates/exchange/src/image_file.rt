@@ -41,7 +41,7 @@ fn load_file(rt: &HostRuntime, word: &[u8], image: &mut [u8]) -> usize {
 fn open(rt: &HostRuntime, path: &[u8]) -> io::Result<File> {
     match str::from_utf8(path) {
         Ok(text) => File::open(rt, text),
-        Err(_) => Err(io::Error::from(io::ErrorKind::NotFound)),
+        Err(_) => Err(io::Error::from(io::ErrorKind::InvalidFilename)),
     }
 }
 

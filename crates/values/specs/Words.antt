@@ -17,7 +17,7 @@ verdict_word Unfinished = ascii "unfinished"
 verdict_word Right = ascii "right"
 verdict_word Wrong = ascii "wrong"
 
--- "D is `none`, `go_on`, `send-again`, `new-leg`, `done` or `given-up`"
+-- "D is `none`, `go-on`, `send-again`, `new-leg`, `done` or `given-up`"
 abbrev pub decision_told : Decision → List ℕ
 decision_told Nothing = ascii "none"
 decision_told GoOn = ascii "go-on"

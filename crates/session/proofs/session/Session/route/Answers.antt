@@ -29,7 +29,7 @@ unfolding routed
 returns-then-is_checking c =
     let not-f9 = ne_eqb _ _ c.if-f-eq-F9.false in
     let place = c.place_for-i.ensures.0 in
-    let listed = lt-ltb _ _ c.if-count-i.false in
+    let listed = lt-ltb c.place_for-i.result c.args.self.count (omega arith) in
     let runs = c.if-is_checking.true in
     (simp (not-f9, ← place, listed, runs, c.unchanged-then-is_checking.ensures), simp (not-f9, ← place, listed, runs))
 
