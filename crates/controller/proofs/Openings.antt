@@ -7,7 +7,6 @@ use native.Mathlib.Omega.{arith}
 use lib.ListN.{length}
 use Rattle.boards.specs.declared.board.Board.{Board}
 use Rattle.session.specs.declared.session.Session.{Session}
-use Rattle.commands.specs.Outcomes.{accepted}
 use Rattle.boards.specs.Boards.{max_boards}
 use Rattle.session.specs.Opening.{fresh_session, opened}
 use Rattle.session.proofs.Openings.{open_usable, open_refused, none-unlawful}

@@ -3,7 +3,6 @@
 use Rattle.std.specs.Prelude.{◌≡◌, Bool, false, cond, List, [], ◌∷◌, ◌++◌, ℕ, ◌+◌, eqb, ltb, length, take}
 use Rattle.answers.specs.Answers.{begun_texts, called_texts, portioned_texts, framed_texts, decided_texts, changed_texts, sender_changed_texts}
 use Rattle.answers.specs.Answers.{line_end}
-use Rattle.controller.specs.declared.record.Record.{Record}
 use Rattle.controller.specs.Records.{no_record, opened_record}
 use Rattle.controller.specs.Calls.{CallLeaves, fed_call, quieted_call}
 use Rattle.controller.specs.declared.call.Called.{Called}
@@ -17,13 +16,9 @@ use Rattle.phrases.specs.declared.phrase.Phrase.{Phrase}
 use Rattle.phrases.specs.Messages.{trouble_texts}
 use Rattle.phrases.specs.Places.{room_at, area_at, image_at, set_held_at}
 use Rattle.sender.specs.declared.decision.Decided.{Decided}
-use Rattle.sender.specs.declared.sender.Sender.{Sender}
 use Rattle.sender.specs.Senders.{no_sender}
 use Rattle.sender.specs.Opening.{opened_sender}
 use Rattle.sender.specs.Requests.{requested, room_requested}
-use Rattle.sender.specs.Replies.{after_reply}
-use Rattle.sender.specs.Silences.{after_silence}
-use Rattle.sequences.specs.Places.{written_at}
 use Rattle.text.specs.Ascii.{ascii}
 use Rattle.text.specs.Decimals.{decimal}
 use Rattle.desk.specs.declared.desk.Desk.{Desk}

@@ -1,5 +1,5 @@
 -- docs/CONSOLE.md: "A memory is lent from its first byte on." Assumes nothing.
-use Rattle.std.specs.Prelude.{◌≡◌, List, ◌++◌, ℕ, ◌-◌, take, drop}
+use Rattle.std.specs.Prelude.{◌≡◌, List, ◌++◌, ℕ, ◌-◌, drop}
 use Rattle.controller.specs.declared.call.Called.{Called}
 use Rattle.controller.specs.Calls.{CallLeaves}
 

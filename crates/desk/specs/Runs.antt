@@ -10,7 +10,6 @@ use Rattle.sequences.specs.Fields.{byte_at}
 use Rattle.sequences.specs.Places.{written_at}
 use Rattle.text.specs.Ascii.{ascii}
 use Rattle.text.specs.Outputs.{Flushed}
-use Rattle.desk.specs.declared.desk.Desk.{Desk}
 use Rattle.desk.specs.declared.run.Run.{Run}
 use Rattle.desk.specs.Desks.{empty_desk, with_output}
 use Rattle.desk.specs.Telling.{DeskTold}

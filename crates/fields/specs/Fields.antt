@@ -1,5 +1,5 @@
 -- docs/CONSOLE.md, "Fields of the record": what `set` makes of each. p is the phrase, b its bytes. Assumes nothing.
-use Rattle.std.specs.Prelude.{cond, List, ℕ, ◌%◌, eqb, ltb, take, set}
+use Rattle.std.specs.Prelude.{cond, List, ℕ, ◌%◌, ltb, take, set}
 use Rattle.sequences.specs.Fields.{byte_at, number32_at, field_at}
 use Rattle.sequences.specs.Places.{written_at}
 use Rattle.boards.specs.declared.board.Board.{Board}

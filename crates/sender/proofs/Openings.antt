@@ -1,5 +1,5 @@
 -- Opening succeeds exactly when the offer is one that FA and the longest area take. Assumes nothing.
-use mathlib.Core.Path.{◌≡◌, refl, ap, ap₂}
+use mathlib.Core.Path.{◌≡◌, refl, ap₂}
 use mathlib.Core.Bool.{Bool, true, false, ◌||◌}
 use Prim.Native.Nat.{ℕ, ◌≤◌, ◌<◌}
 use native.Mathlib.Omega.{arith}
@@ -7,7 +7,6 @@ use borrow.Author.Tests.{ltb-false, le-ltb, eqb-false, ne_eqb}
 use lib.Dec.{ltb, eqb}
 use Rattle.sequences.proofs.Conditionals.{neither}
 use Rattle.commands.specs.Limits.{min_packet, max_area}
-use Rattle.commands.specs.Outcomes.{accepted, wrong_image}
 use Rattle.sender.specs.declared.sender.Offer.{Offer}
 use Rattle.sender.specs.Rules.{bad_offer}
 use Rattle.sender.specs.Opening.{opened_sender, OfferOpens, EveryOfferOpens}

@@ -1,6 +1,5 @@
 -- `account::account::Account::after_portion` meets its contract. Assumes nothing.
-use Rattle.std.proofs.Common.{◌≡◌, ℕ, refl, inl, inr, arith}
-use Rattle.image.specs.declared.check.Verdict.TheVariants.{Unfinished}
+use Rattle.std.proofs.Common.{refl}
 use Rattle.account.proofs.Telling.{frame_added}
 use Rattle.account.proofs.account.Account.after_portion.Goals as goal
 

@@ -1,5 +1,5 @@
 -- `account::line::Line::reply` meets its contract. Assumes nothing.
-use Rattle.std.proofs.Common.{◌≡◌, ℕ, ◌*◌, List, length, sym, subst, arith}
+use Rattle.std.proofs.Common.{ℕ, List, sym, subst, arith}
 use Rattle.account.specs.Texts.{Adds}
 use Rattle.account.proofs.Adding.{adds-reply, hex_count, no-reply}
 use Rattle.account.proofs.line.Line.reply.Goals as goal

@@ -1,5 +1,5 @@
 -- `account::line::Line::text` meets its contract. Assumes nothing.
-use Rattle.std.proofs.Common.{◌≡◌, ◌-◌, length, take, drop, length-take, length-drop, arith}
+use Rattle.std.proofs.Common.{◌≡◌, ◌-◌, length, drop, length-take, length-drop, arith}
 use Rattle.account.proofs.Adding.{adds_part}
 use Rattle.account.proofs.line.Line.text.Goals as goal
 

@@ -1,6 +1,5 @@
 -- `words::words::Words::with_size` meets its contract. Assumes nothing.
 use borrow.Author.Tests.{eq-eqb, ne_eqb}
-use native.Mathlib.Omega.{arith}
 use Rattle.words.proofs.words.Words.with_size.Goals as goal
 
 -- cast-self : tie.Need-overflow-cast-self
