@@ -49,17 +49,17 @@ adds-written l t h =
 
 -- the room behind the line's end, as a callee is lent it, and the line's bytes with q left there
 abbrev room_of : Line → List ℕ
-room_of l = take (max_line - l.count) (drop l.count l.bytes)
+room_of l = take (length l.bytes - l.count) (drop l.count l.bytes)
 
 abbrev left_by : Line → List ℕ → List ℕ
-left_by l q = take l.count l.bytes ++ (q ++ drop (max_line - l.count) (drop l.count l.bytes))
+left_by l q = take l.count l.bytes ++ (q ++ drop (length l.bytes - l.count) (drop l.count l.bytes))
 
 pub adds_part : (l : Line) (t q : List ℕ) (n : ℕ) → length l.bytes ≡ max_line → l.count + length t ≤ max_line → n ≡ length t
     → q ≡ take (length t) t ++ drop (length t) (room_of l) → Adds l t (record { bytes = left_by l q; count = l.count + n })
 adds_part l t q n size h en eq =
     let at = l.count in
     let fits : at + length t ≤ length l.bytes = omega arith in
-    let is : left_by l q ≡ written_at l.bytes at t = part_written l.bytes t q at (max_line - at) (omega arith) fits eq in
+    let is : left_by l q ≡ written_at l.bytes at t = part_written l.bytes t q at (length l.bytes - at) (omega arith) fits eq in
     subst (λ (k : ℕ). Adds l t (record { bytes = left_by l q; count = at + k })) (sym en)
     (subst (λ (b : List ℕ). Adds l t (record { bytes = b; count = at + length t })) (sym is) (adds-written l t fits))
 
@@ -68,8 +68,8 @@ adds_part l t q n size h en eq =
 hex_fits_lem : (l : Line) (s : List ℕ) → length l.bytes ≡ max_line → l.count + 2 * length s ≤ max_line → hex_fits s (room_of l) ≡ true
 hex_fits_lem l s size h =
     let behind = drop l.count l.bytes in
-    let long : length behind ≡ max_line - l.count = omega (arith, length-drop l.count l.bytes) in
-    le-leb (2 * length s) (length (room_of l)) (omega (arith, length-take-le (max_line - l.count) behind (omega (arith, long))))
+    let long : length behind ≡ length l.bytes - l.count = length-drop l.count l.bytes in
+    le-leb (2 * length s) (length (room_of l)) (omega (arith, length-take-le (length l.bytes - l.count) behind (omega (arith, long))))
 
 pub hex_count : (l : Line) (s : List ℕ) (n : ℕ) → length l.bytes ≡ max_line → l.count + 2 * length s ≤ max_line
     → n ≡ hex_size s (room_of l) → n ≡ 2 * length s

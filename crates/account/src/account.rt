@@ -1,16 +1,17 @@
 // What is told of a capture, call by call.
 ghost use Rattle.std.specs.Prelude.{◌≡◌, take};
 ghost use Rattle.account.specs.Texts.{line_text, FrameText};
-ghost use Rattle.account.specs.Accounts.{sum, line_waits, nothing_told, FrameTold, CallTold, PortionTold, AllWritten, EndTold};
+ghost use Rattle.account.specs.Accounts.{sum, line_waits, nothing_told, FrameTold, CallTold, PortionTold, EndTold};
 
 use crate::line::Line;
-use commands::{outcome, table};
+use commands::outcome::Outcome;
+use commands::table;
 use controller::call::{Called, MIN_ROOM};
 use controller::portion::Portioned;
 use fronts::OVERHEAD;
 use image::check::Verdict;
 use sequences::part::front;
-use text::output::{Output, SIZE};
+use text::output::Output;
 
 // An end request has one byte of data.
 const FE_LENGTH: usize = 1;
@@ -21,7 +22,6 @@ pub struct Account {
     // the capture's place of the first byte that is neither dropped nor of a frame that has its line
     pub place: u64,
     pub dropped: u64,
-    pub lines: Output,
 }
 
 impl Account {
@@ -31,13 +31,12 @@ impl Account {
         Account {
             place: 0,
             dropped: 0,
-            lines: Output::empty(),
         }
     }
 
     // A call's drops are passed, then its frame, if it ended at one, gets a line and is passed, unless it starts an end check. The reply
     // stands in the room.
-    pub fn after(mut self, c: Called, room: &[u8; MIN_ROOM], output: &mut [u8; SIZE]) -> Account
+    pub fn after(mut self, c: Called, room: &[u8; MIN_ROOM], output: &mut Output) -> Account
         ensures { CallTold self c room.now output.old result output.new }
     {
         self.place = plus(self.place, c.dropped);
@@ -45,55 +44,48 @@ impl Account {
         if line_waits(c) {
             return self;
         }
-        let line = line_at(self.place, c.command, c.outcome, room, c.reply_length);
+        let line = line_at(
+            self.place,
+            c.command,
+            u8::from(c.outcome),
+            room,
+            c.reply_length,
+        );
         self.with_line(line, c.data_length, output)
     }
 
     // With the verdict of an end check its end request gets a line and is passed.
-    pub fn after_portion(
-        self,
-        p: Portioned,
-        room: &[u8; MIN_ROOM],
-        output: &mut [u8; SIZE],
-    ) -> Account
+    pub fn after_portion(self, p: Portioned, room: &[u8; MIN_ROOM], output: &mut Output) -> Account
         ensures { PortionTold self p room.now output.old result output.new }
     {
-        let verdict = p.verdict;
-        match verdict {
+        match p.verdict {
             Verdict::Unfinished => self,
             _ => {
-                let line = line_at(self.place, table::FE, p.outcome, room, p.reply_length);
+                let line = line_at(
+                    self.place,
+                    table::FE,
+                    u8::from(p.outcome),
+                    room,
+                    p.reply_length,
+                );
                 self.with_line(line, FE_LENGTH, output)
             }
         }
     }
 
-    // Writes the lines that wait.
-    pub fn flush(mut self, output: &[u8; SIZE]) -> Account
-        ensures { AllWritten self result }
-    {
-        let lines = self.lines;
-        self.lines = lines.flush(output);
-        self
-    }
-
     // The last line is added.
-    pub fn end(self, output: &mut [u8; SIZE]) -> Output
-        ensures { EndTold self output.old result output.new }
+    pub fn end(self, output: &mut Output)
+        ensures { EndTold self output.old output.new }
     {
         let line = Line::end(self.dropped);
-        let bytes = line.bytes;
-        let lines = self.lines;
-        lines.text(front(&bytes, line.count), output)
+        output.text(front(&line.bytes, line.count));
     }
 
     // The line of the frame that stands here; the frame, of 7 + L bytes, is passed.
-    fn with_line(mut self, line: Line, length: usize, output: &mut [u8; SIZE]) -> Account
+    fn with_line(mut self, line: Line, length: usize, output: &mut Output) -> Account
         ensures { FrameTold self (line_text line) length output.old result output.new }
     {
-        let bytes = line.bytes;
-        let lines = self.lines;
-        self.lines = lines.text(front(&bytes, line.count), output);
+        output.text(front(&line.bytes, line.count));
         self.place = plus(plus(self.place, OVERHEAD), length);
         self
     }
@@ -103,23 +95,21 @@ impl Account {
 fn line_waits(c: Called) -> bool
     ensures { result ≡ line_waits c }
 {
-    if c.outcome == outcome::NO_FRAME_YET {
-        return true;
+    match c.outcome {
+        Outcome::NoFrameYet => true,
+        _ => c.next.is_checking(),
     }
-    let next = c.next;
-    next.is_checking()
 }
 
-// The line of a frame, whose reply is the first `length` bytes of the room.
+// The line of a frame, whose reply is the first `length` bytes of the room; the outcome comes as its number, as `FrameText` has it.
 fn line_at(place: u64, command: u8, outcome: u8, room: &[u8; MIN_ROOM], length: usize) -> Line
     ensures { FrameText place command outcome (take length room.now) (line_text result) }
 {
-    let all: &[u8] = room;
-    Line::frame(place, command, outcome, front(all, length))
+    Line::frame(place, command, outcome, front(room, length))
 }
 
 fn plus(a: u64, b: usize) -> u64
     ensures { result ≡ sum a b }
 {
-    std::num::wrapping_add_u64(a, b as u64)
+    a.wrapping_add(b as u64)
 }

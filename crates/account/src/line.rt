@@ -49,8 +49,7 @@ impl Line {
     }
 
     fn empty() -> Line
-        ensures count_value { result.count ≡ 0 }
-        ensures bytes_len { length result.bytes ≡ max_line }
+        ensures { result.count ≡ 0 }
     {
         Line {
             bytes: [0; MAX_LINE],
@@ -59,28 +58,22 @@ impl Line {
     }
 
     // The reply in hexadecimal, or `-` for none.
-    fn reply(self, reply: &[u8]) -> Line
-        requires bytes_len { length self.bytes ≡ max_line }
+    fn reply(mut self, reply: &[u8]) -> Line
         requires min_room_bound { self.count + 2 * min_room ≤ max_line }
         requires reply_len_bound { length reply.now ≤ min_room }
         ensures adds { Adds self (reply_text reply.now) result }
         ensures count_bound { result.count ≤ self.count + 2 * min_room }
     {
-        if reply.len() == 0 {
+        if reply.is_empty() {
             return self.put(b'-');
         }
-        let mut all = self.bytes;
         let at = self.count;
-        let n = hex::bytes(reply, &mut all[at..]);
-        Line {
-            bytes: all,
-            count: at + n,
-        }
+        self.count = at + hex::bytes(reply, &mut self.bytes[at..]);
+        self
     }
 
     fn decimal(self, n: u64) -> Line
-        requires bytes_len { length self.bytes ≡ max_line }
-        requires count_bound { self.count + 20 ≤ max_line }
+        requires { self.count + 20 ≤ max_line }
         ensures { AddsDecimal self n result }
     {
         let mut digits = [0u8; DECIMAL];
@@ -89,31 +82,24 @@ impl Line {
     }
 
     fn hex(self, b: u8) -> Line
-        requires bytes_len { length self.bytes ≡ max_line }
-        requires count_bound { self.count + 2 ≤ max_line }
+        requires { self.count + 2 ≤ max_line }
         ensures { Adds self (hex_byte b) result }
     {
         let digits = hex::byte(b);
         self.put(digits[0]).put(digits[1])
     }
 
-    fn text(self, text: &[u8]) -> Line
-        requires bytes_len { length self.bytes ≡ max_line }
-        requires text_bound { self.count + length text.now ≤ max_line }
+    fn text(mut self, text: &[u8]) -> Line
+        requires { self.count + length text.now ≤ max_line }
         ensures { Adds self text.now result }
     {
-        let mut all = self.bytes;
         let at = self.count;
-        let n = place::copy(text, &mut all[at..]);
-        Line {
-            bytes: all,
-            count: at + n,
-        }
+        self.count = at + place::copy(text, &mut self.bytes[at..]);
+        self
     }
 
     fn put(mut self, b: u8) -> Line
-        requires bytes_len { length self.bytes ≡ max_line }
-        requires count_bound { self.count + 1 ≤ max_line }
+        requires { self.count + 1 ≤ max_line }
         ensures { Adds self (b ∷ []) result }
     {
         let at = self.count;

@@ -12,10 +12,10 @@ use boards::board::Board;
 use commands::state;
 use replies::reply;
 use requests::request::RequestFB;
-use sequences::compare::same8;
 use transfer::phase::{Phase, is_idle};
 use transfer::state::{Step, Transfer};
 
+#[tactic(auto, unfolding(crate::specs::FB::answer_fb))]
 pub fn answer(t: Transfer, r: RequestFB, board: Board, area: &[u8]) -> Step
     ensures { result ≡ answer_fb t board r area.now }
 {
@@ -33,24 +33,19 @@ pub fn answer(t: Transfer, r: RequestFB, board: Board, area: &[u8]) -> Step
 fn not_in_session(t: Transfer, channel: u8) -> bool
     ensures { result ≡ (idle t.leg.phase || other_channel t channel) }
 {
-    let leg = t.leg;
-    let phase = leg.phase;
-    if is_idle(phase) {
-        return true;
-    }
-    t.other_channel(channel)
+    is_idle(t.leg.phase) || t.other_channel(channel)
 }
 
 // The CRC-32 is taken of the area's bytes as they stand, after it is settled how many stay.
+#[tactic(auto, unfolding(crate::specs::FB::grant_fb))]
 fn grant(t: Transfer, r: RequestFB, area: &[u8]) -> Step
     ensures { result ≡ grant_fb t r area.now }
 {
     let next = after_grant(t, r);
-    let progress = next.progress;
-    let crc = progress.checksum(area);
+    let crc = next.progress.checksum(area);
     Step::replied(
         next,
-        reply::fb(r.channel, state::GRANTED, progress.stored, crc),
+        reply::fb(r.channel, state::GRANTED, next.progress.stored, crc),
     )
 }
 
@@ -58,14 +53,15 @@ fn after_grant(t: Transfer, r: RequestFB) -> Transfer
     ensures { result ≡ after_fb t r }
 {
     let told = identity::told(r);
-    let held = t.image;
-    if identity::is_same(told, held) {
+    if told == t.image {
         return t.with_phase(Phase::Told);
     }
     t.replaced(Phase::Told, told)
 }
 
-// The state that FB's reply carries, the area having n bytes.
+// The state that FB's reply carries, the area having n bytes. It stays the wire's byte: the definition `state_fb`, which the claims about
+// FB name, gives it.
+#[tactic(auto, unfolding(crate::specs::FB::state_fb))]
 fn state_for(r: RequestFB, board: Board, n: usize) -> u8
     ensures { result ≡ state_fb board r n }
 {
@@ -84,30 +80,17 @@ fn state_for(r: RequestFB, board: Board, n: usize) -> u8
 fn other_pid(r: RequestFB, board: Board) -> bool
     ensures { result ≡ not (same r.pid board.pid) }
 {
-    let pid = r.pid;
-    let own = board.pid;
-    if same8(pid, own) {
-        return false;
-    }
-    true
+    r.pid != board.pid
 }
 
 fn not_newer(r: RequestFB, board: Board) -> bool
     ensures { result ≡ not (newer r.version board.soft) }
 {
-    let version = r.version;
-    let soft = board.soft;
-    if newer(version, soft) {
-        return false;
-    }
-    true
+    !newer(r.version, board.soft)
 }
 
 fn bad_length(r: RequestFB, n: usize) -> bool
     ensures { result ≡ (eqb r.length 0 || ltb n r.length) }
 {
-    if r.length == 0 {
-        return true;
-    }
-    n < r.length
+    r.length == 0 || n < r.length
 }

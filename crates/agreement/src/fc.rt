@@ -10,6 +10,7 @@ use requests::request::RequestFC;
 use transfer::phase::{Phase, is_told_or_receiving};
 use transfer::state::{Leg, Step, Transfer};
 
+#[tactic(auto, unfolding(crate::specs::FC::answer_fc))]
 pub fn answer(t: Transfer, r: RequestFC) -> Step
     ensures { result ≡ answer_fc t r }
 {
@@ -24,30 +25,21 @@ pub fn answer(t: Transfer, r: RequestFC) -> Step
 fn started_at(t: Transfer, start: usize) -> Transfer
     ensures { result ≡ started_at t start }
 {
-    let image = t.image;
-    let check = t.check;
     Transfer {
         leg: Leg {
             phase: Phase::Receiving,
-            channel: t.leg.channel,
-            agreed: t.leg.agreed,
             next: 0,
+            ..t.leg
         },
         progress: Progress::from(start),
-        image,
-        check,
+        ..t
     }
 }
 
 fn not_started(t: Transfer, channel: u8) -> bool
     ensures { result ≡ (not (told_or_receiving t.leg.phase) || other_channel t channel) }
 {
-    let leg = t.leg;
-    let phase = leg.phase;
-    if is_told_or_receiving(phase) {
-        return t.other_channel(channel);
-    }
-    true
+    !is_told_or_receiving(t.leg.phase) || t.other_channel(channel)
 }
 
 // An offset other than what is stored, smaller or larger, starts anew.
@@ -55,7 +47,8 @@ fn start_of(t: Transfer, r: RequestFC) -> usize
     ensures { result ≡ start_of t r }
 {
     if r.offset == t.progress.stored {
-        return t.progress.stored;
+        t.progress.stored
+    } else {
+        0
     }
-    0
 }

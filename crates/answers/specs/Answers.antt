@@ -1,5 +1,6 @@
 -- docs/CONSOLE.md, "Output": the lines in parts, each given as the texts that are put for it, one behind the other. Assumes nothing.
 use Rattle.std.specs.Prelude.{List, [], ◌∷◌, ◌++◌, ℕ, take}
+use Rattle.commands.specs.Outcomes.{outcome_number}
 use Rattle.controller.specs.declared.call.Called.{Called}
 use Rattle.controller.specs.declared.portion.Portioned.{Portioned}
 use Rattle.controller.specs.declared.record.Record.{Record}
@@ -25,7 +26,7 @@ count_texts name n = name ∷ decimal n ∷ []
 -- `OUTCOME taken=N dropped=N command=XX length=N`
 abbrev pub reading_texts : Called → List (List ℕ)
 reading_texts c =
-    decimal c.outcome ∷ []
+    decimal (outcome_number c.outcome) ∷ []
     ++ count_texts (ascii " taken=") c.taken
     ++ count_texts (ascii " dropped=") c.dropped
     ++ (ascii " command=" ∷ hex_byte c.command ∷ [])
@@ -38,16 +39,16 @@ room_texts name n kept room = name ∷ [] ++ bytes_texts (take n room) ++ ascii 
 
 -- `OUTCOME taken=N dropped=N command=XX length=N reply=BYTES past=SPAN area=SPAN`: "`area` looks at the lent area"
 abbrev pub called_texts : Called → List ℕ → List ℕ → List ℕ → List ℕ → List (List ℕ)
-called_texts c kept room keptArea area =
+called_texts c kept room kept_area area =
     reading_texts c
     ++ room_texts (ascii " reply=") c.reply_length kept room
     ++ ascii " area=" ∷ []
-    ++ span_texts keptArea area 0
+    ++ span_texts kept_area area 0
 
 -- `OUTCOME count=N verdict=V reply=BYTES past=SPAN`
 abbrev pub portioned_texts : Portioned → List ℕ → List ℕ → List (List ℕ)
 portioned_texts p kept room =
-    decimal p.outcome ∷ []
+    decimal (outcome_number p.outcome) ∷ []
     ++ count_texts (ascii " count=") p.count
     ++ (ascii " verdict=" ∷ verdict_word p.verdict ∷ [])
     ++ room_texts (ascii " reply=") p.reply_length kept room
@@ -62,7 +63,7 @@ framed_texts outcome n kept room = decimal outcome ∷ [] ++ room_texts (ascii "
 
 -- `OUTCOME decision=D`
 abbrev pub decided_texts : Decided → List (List ℕ)
-decided_texts d = decimal d.outcome ∷ ascii " decision=" ∷ decision_told d.decision ∷ []
+decided_texts d = decimal (outcome_number d.outcome) ∷ ascii " decision=" ∷ decision_told d.decision ∷ []
 
 -- `CHANGES`, the last field
 abbrev pub changed_texts : Record → Record → List (List ℕ)

@@ -1,7 +1,7 @@
 #![tactic(auto)]
 
-// What the console answers: the lines of docs/CONSOLE.md, in parts that are put one behind the other. Each is put behind those that wait
-// for standard output, in the buffer that the caller lends.
+// What the console answers: the lines of docs/CONSOLE.md, in parts that are put one behind the other, behind the texts that wait for
+// standard output.
 //
 // - `begun`: the line's number and the command's name.
 // - `called`, `portioned`, `framed`, `decided`: what a call gave, and what it did to the memories that it was lent.
@@ -18,138 +18,116 @@ use controller::record::Record;
 use sender::decision::Decided;
 use sender::sender::Sender;
 use sequences::part::front;
-use text::hex;
-use text::output::{Output, SIZE};
-use values::hexes::written;
+use text::output::Output;
+use values::hexes::{byte, written};
 use values::span::span;
 use values::word;
 
 // The line's number, and the name of the command with a space before it.
-pub fn begun(output: Output, number: u64, name: &[u8], out: &mut [u8; SIZE]) -> Output
-    ensures { TextsAdded output (begun_texts number name.now) out.old result out.new }
+pub fn begun(output: &mut Output, number: u64, name: &[u8])
+    ensures { TextsAdded output.old (begun_texts number name.now) output.new }
 {
-    output.decimal(number, &mut *out).text(name, out)
+    output.decimal(number);
+    output.text(name);
 }
 
 // What feeding or quiet gave, but for what changed in the record. `kept` and `kept_area` are what room and area held before.
 pub fn called(
-    output: Output,
+    output: &mut Output,
     c: Called,
     kept: &[u8],
     room: &[u8],
     kept_area: &[u8],
     area: &[u8],
-    out: &mut [u8; SIZE],
-) -> Output
-    ensures { TextsAdded output
-        (called_texts c kept.now room.now kept_area.now area.now) out.old result
-        out.new }
+)
+    ensures { TextsAdded output.old (called_texts c kept.now room.now kept_area.now area.now) output.new }
 {
-    let read = reading(output, c, &mut *out);
-    let told = in_room(read, b" reply=", c.reply_length, kept, room, &mut *out);
-    span(told.text(b" area=", &mut *out), kept_area, area, 0, out)
+    reading(output, c);
+    in_room(output, b" reply=", c.reply_length, kept, room);
+    output.text(b" area=");
+    span(output, kept_area, area, 0);
 }
 
 // Outcome, counts and frame of a reading.
-fn reading(output: Output, c: Called, out: &mut [u8; SIZE]) -> Output
-    ensures { TextsAdded output (reading_texts c) out.old result out.new }
+fn reading(output: &mut Output, c: Called)
+    ensures { TextsAdded output.old (reading_texts c) output.new }
 {
-    let outcome = output.decimal(c.outcome as u64, &mut *out);
-    let taken = count(outcome, b" taken=", c.taken, &mut *out);
-    let dropped = count(taken, b" dropped=", c.dropped, &mut *out);
-    let digits = hex::byte(c.command);
-    let command = dropped
-        .text(b" command=", &mut *out)
-        .text(&digits, &mut *out);
-    count(command, b" length=", c.data_length, out)
+    output.decimal(u8::from(c.outcome) as u64);
+    count(output, b" taken=", c.taken);
+    count(output, b" dropped=", c.dropped);
+    output.text(b" command=");
+    byte(output, c.command);
+    count(output, b" length=", c.data_length);
 }
 
 // A field with a number.
-fn count(output: Output, name: &[u8], n: usize, out: &mut [u8; SIZE]) -> Output
-    ensures { TextsAdded output (count_texts name.now n) out.old result out.new }
+fn count(output: &mut Output, name: &[u8], n: usize)
+    ensures { TextsAdded output.old (count_texts name.now n) output.new }
 {
-    output.text(name, &mut *out).decimal(n as u64, out)
+    output.text(name);
+    output.decimal(n as u64);
 }
 
 // What a portion gave, but for what changed in the record.
-pub fn portioned(
-    output: Output,
-    p: Portioned,
-    kept: &[u8],
-    room: &[u8],
-    out: &mut [u8; SIZE],
-) -> Output
-    ensures { TextsAdded output (portioned_texts p kept.now room.now) out.old result out.new }
+pub fn portioned(output: &mut Output, p: Portioned, kept: &[u8], room: &[u8])
+    ensures { TextsAdded output.old (portioned_texts p kept.now room.now) output.new }
 {
-    let outcome = output.decimal(p.outcome as u64, &mut *out);
-    let told = count(outcome, b" count=", p.count, &mut *out);
-    let verdict = p.verdict;
-    let checked = word::verdict(told.text(b" verdict=", &mut *out), verdict, &mut *out);
-    in_room(checked, b" reply=", p.reply_length, kept, room, out)
+    output.decimal(u8::from(p.outcome) as u64);
+    count(output, b" count=", p.count);
+    output.text(b" verdict=");
+    output.text(word::verdict(p.verdict));
+    in_room(output, b" reply=", p.reply_length, kept, room);
 }
 
 // What a call gave that writes a frame and changes no record.
-pub fn framed(
-    output: Output,
-    outcome: u8,
-    length: usize,
-    kept: &[u8],
-    room: &[u8],
-    out: &mut [u8; SIZE],
-) -> Output
-    ensures { TextsAdded output (framed_texts outcome length kept.now room.now) out.old result
-        out.new }
+pub fn framed(output: &mut Output, outcome: u8, length: usize, kept: &[u8], room: &[u8])
+    ensures { TextsAdded output.old (framed_texts outcome length kept.now room.now) output.new }
 {
-    let given = output.decimal(outcome as u64, &mut *out);
-    let told = in_room(given, b" frame=", length, kept, room, &mut *out);
-    ended(told, out)
+    output.decimal(outcome as u64);
+    in_room(output, b" frame=", length, kept, room);
+    ended(output);
 }
 
 // What was written to the front of the room, and what changed behind that.
-fn in_room(
-    output: Output,
-    name: &[u8],
-    length: usize,
-    kept: &[u8],
-    room: &[u8],
-    out: &mut [u8; SIZE],
-) -> Output
-    ensures { TextsAdded output (room_texts name.now length kept.now room.now) out.old result
-        out.new }
+fn in_room(output: &mut Output, name: &[u8], length: usize, kept: &[u8], room: &[u8])
+    ensures { TextsAdded output.old (room_texts name.now length kept.now room.now) output.new }
 {
-    let named = output.text(name, &mut *out);
-    let told = written(named, front(room, length), &mut *out);
-    span(told.text(b" past=", &mut *out), kept, room, length, out)
+    output.text(name);
+    written(output, front(room, length));
+    output.text(b" past=");
+    span(output, kept, room, length);
 }
 
 // What the sender made of a reply or a silence, but for what changed in its record.
-pub fn decided(output: Output, d: Decided, out: &mut [u8; SIZE]) -> Output
-    ensures { TextsAdded output (decided_texts d) out.old result out.new }
+pub fn decided(output: &mut Output, d: Decided)
+    ensures { TextsAdded output.old (decided_texts d) output.new }
 {
-    let outcome = output.decimal(d.outcome as u64, &mut *out);
-    let decision = d.decision;
-    word::decision(outcome.text(b" decision=", &mut *out), decision, out)
+    output.decimal(u8::from(d.outcome) as u64);
+    output.text(b" decision=");
+    output.text(word::decision(d.decision));
 }
 
 // How the controller's record changed, to the line's end.
-pub fn changed(output: Output, before: Record, after: Record, out: &mut [u8; SIZE]) -> Output
-    ensures { TextsAdded output (changed_texts before after) out.old result out.new }
+pub fn changed(output: &mut Output, before: Record, after: Record)
+    ensures { TextsAdded output.old (changed_texts before after) output.new }
 {
-    let told = record(output.text(b" ", &mut *out), before, after, &mut *out);
-    ended(told, out)
+    output.text(b" ");
+    record(output, before, after);
+    ended(output);
 }
 
 // How the sender's changed.
-pub fn sender_changed(output: Output, before: Sender, after: Sender, out: &mut [u8; SIZE]) -> Output
-    ensures { TextsAdded output (sender_changed_texts before after) out.old result out.new }
+pub fn sender_changed(output: &mut Output, before: Sender, after: Sender)
+    ensures { TextsAdded output.old (sender_changed_texts before after) output.new }
 {
-    let told = sender(output.text(b" ", &mut *out), before, after, &mut *out);
-    ended(told, out)
+    output.text(b" ");
+    sender(output, before, after);
+    ended(output);
 }
 
 // The line's end.
-pub fn ended(output: Output, out: &mut [u8; SIZE]) -> Output
-    ensures { TextsAdded output line_end out.old result out.new }
+pub fn ended(output: &mut Output)
+    ensures { TextsAdded output.old line_end output.new }
 {
-    output.text(b"\n", out)
+    output.text(b"\n");
 }

@@ -43,9 +43,8 @@ pub fn open_on(channel: u8) -> Record
         channel,
         soft: [1, 0, 2],
         hard: [1, 0, 0],
-        pid: [0; 8],
         permit: true,
+        ..none
     };
-    let opened = Record::open(boards, 1, AREA);
-    opened.next
+    Record::open(boards, 1, AREA).next
 }

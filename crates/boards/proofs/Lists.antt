@@ -1,43 +1,33 @@
--- The unused places of the board list are filled one by one. Assumes nothing.
+-- The unused places of the board list are filled. Assumes nothing.
 use mathlib.Core.Path.{◌≡◌, refl, sym, ap, ap₂, ◌∙◌}
-use mathlib.Core.List.{List, ◌∷◌, ◌++◌, append_assoc, append-nil}
-use Prim.Native.Nat.{ℕ, zero, suc, ◌+◌, ◌-◌, ◌≤◌, ◌<◌}
+use mathlib.Core.List.{List, [], ◌∷◌, ◌++◌, append-nil}
+use Prim.Native.Nat.{ℕ, suc, ◌-◌, ◌≤◌, ◌<◌}
 use native.Mathlib.Omega.{arith}
-use native.Mathlib.Numerals.{add-one}
-use lib.ListN.{length, take, drop, set, get_or, replicate, length-append, length-replicate, drop_of_length-le, take-append-drop}
-use lib.Seq.{drop-cons, set_at, length-take-le}
+use borrow.Rule.Slice.PartMut.{put_mid}
+use lib.ListN.{length, take, drop, get_or, replicate, length-drop, drop_of_length-le, take-append-drop}
+use Rattle.std.proofs.lemmas.Grind.{common_steps}
 
-replicate_snoc : {A : Type 0} (k : ℕ) (z : A) (ys : List A) → replicate k z ++ (z ∷ ys) ≡ replicate (suc k) z ++ ys
-replicate_snoc zero z ys = refl
-replicate_snoc (suc k) z ys = ap (λ (l : List _). z ∷ l) (replicate_snoc k z ys)
+-- a list whose every element is z
+replicate-is : {X : Type 0} (ys : List X) (z : X) → ((k : ℕ) (d : X) → k < length ys → get_or ys k d ≡ z) → ys ≡ replicate (length ys) z
+replicate-is [] z f = refl
+replicate-is (y ∷ ys) z f =
+    ap₂ (λ (x : _) (l : List _). x ∷ l) (f 0 z (omega arith)) (replicate-is ys z (λ k d h. f (suc k) d (omega arith)))
 
--- the first n elements, z up to place i, and the rest as it was
-abbrev pub filled : {A : Type 0} → List A → A → ℕ → ℕ → List A
-filled xs z n i = take n xs ++ (replicate (i - n) z ++ drop i xs)
+-- the places from n on, written anew
+pub filled-rest : {X : Type 0} (xs ys : List X) (z : X) (n m : ℕ) → length xs ≡ m → n < m → length ys ≡ length (take (m - n) (drop n xs))
+    → ((k : ℕ) (d : X) → k < length (take (m - n) (drop n xs)) → get_or ys k d ≡ z)
+    → put_mid n (m - n) xs ys ≡ take n xs ++ replicate (m - n) z
+filled-rest xs ys z n m size h len f =
+    let count : length (take (m - n) (drop n xs)) ≡ m - n = grind (arith, common_steps) in
+    let all : ys ≡ replicate (length ys) z = replicate-is ys z (λ k d b. f k d (omega arith)) in
+    let many : length ys ≡ m - n = omega arith in
+    let past : drop (m - n) (drop n xs) ≡ [] = drop_of_length-le (drop n xs) (omega (arith, length-drop n xs)) in
+    ap (λ (l : List _). take n xs ++ l)
+    (ap (λ (l : List _). ys ++ l) past ∙ append-nil ys ∙ all ∙ ap (λ (k : ℕ). replicate k z) many)
 
-pub filled_none : {A : Type 0} (xs : List A) (z : A) (n : ℕ) → xs ≡ filled xs z n n
-filled_none xs z n =
-    let none : n - n ≡ 0 = omega arith in
-    sym (ap (λ (k : ℕ). take n xs ++ (replicate k z ++ drop n xs)) none ∙ take-append-drop n xs)
-
-pub filled_next : {A : Type 0} (xs : List A) (z : A) (n i : ℕ) → n ≤ i → i < length xs → set (filled xs z n i) i z ≡ filled xs z n (i + 1)
-filled_next {A} xs z n i h k =
-    let p = take n xs ++ replicate (i - n) z in
-    let size : length p ≡ i = omega (
-      arith,
-      length-append (take n xs) (replicate (i - n) z),
-      length-take-le n xs (omega arith),
-      length-replicate (i - n) z,
-    ) in
-    let count : suc (i - n) ≡ i + 1 - n = omega arith in
-    ap (λ (l : List A). set l i z)
-    (sym (append_assoc (take n xs) (replicate (i - n) z) (drop i xs)) ∙ ap (λ (l : List A). p ++ l) (drop-cons xs i z k))
-    ∙ set_at p (get_or xs i z) (drop (suc i) xs) z i size
-    ∙ append_assoc (take n xs) (replicate (i - n) z) (z ∷ drop (suc i) xs)
-    ∙ ap (λ (l : List A). take n xs ++ l) (replicate_snoc (i - n) z (drop (suc i) xs))
-    ∙ ap₂ (λ (c j : ℕ). take n xs ++ (replicate c z ++ drop j xs)) count (sym (add-one i))
-
-pub filled-all : {A : Type 0} (xs : List A) (z : A) (n i : ℕ) → length xs ≤ i → filled xs z n i ≡ take n xs ++ replicate (i - n) z
-filled-all {A} xs z n i h =
-    ap (λ (l : List A). take n xs ++ l)
-    (ap (λ (l : List A). replicate (i - n) z ++ l) (drop_of_length-le xs h) ∙ append-nil (replicate (i - n) z))
+pub all-taken : {X : Type 0} (xs : List X) (z : X) (n m : ℕ) → length xs ≡ m → m ≤ n → xs ≡ take n xs ++ replicate (m - n) z
+all-taken xs z n m size h =
+    let none : m - n ≡ 0 = omega arith in
+    let past : drop n xs ≡ [] = drop_of_length-le xs (omega arith) in
+    sym
+    (ap (λ (k : ℕ). take n xs ++ replicate k z) none ∙ ap (λ (l : List _). take n xs ++ l) (sym past) ∙ take-append-drop n xs)

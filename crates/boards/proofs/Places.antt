@@ -1,13 +1,16 @@
 -- Places and boards of a list that is not too long, and of the list as opening keeps it. Assumes nothing.
-use mathlib.Core.Path.{◌≡◌, refl, ap, ◌∙◌}
-use mathlib.Core.Bool.{Bool, false, cond, ◌||◌}
-use mathlib.Core.List.{List}
+use mathlib.Core.Path.{◌≡◌, refl, sym, ap, ◌∙◌}
+use mathlib.Core.Bool.{Bool, true, false, cond, not, ◌||◌}
+use mathlib.Core.List.{List, [], ◌∷◌}
 use Prim.Native.Nat.{ℕ, zero, suc, ◌+◌, ◌-◌, ◌<◌, ◌≤◌}
 use native.Mathlib.Omega.{arith}
 use borrow.Author.Tests.{lt-ltb, le-ltb, ltb-false}
 use lib.Dec.{ltb, eqb}
 use lib.ListN.{length, take, get_or, replicate, get_or-append}
 use lib.Seq.{length-take-le, get_or-take}
+use Rattle.std.specs.Option.{unwrap_or}
+use Rattle.std.specs.List.{position, position_or_len}
+use Rattle.std.proofs.lemmas.Grind.{common_steps}
 use Rattle.sequences.specs.Search.{find}
 use Rattle.sequences.proofs.Conditionals.{neither}
 use Rattle.boards.specs.declared.board.Board.{Board}
@@ -64,3 +67,63 @@ module _ (bs : List Board) (n : ℕ) (size : length bs ≡ max_boards) (most : n
   list_same =
       ap (λ (x : ℕ). ltb n 1 || (ltb max_boards n || ltb x n))
       (find-same (bad_board (list_of bs n)) (bad_board bs) n 0 (λ k h. board-same k (omega arith)))
+
+-- ---- a search by place, and one over the list
+
+first-or-next : (b : Bool) (i m r : ℕ) → r ≡ i + 1 + m → cond b i r ≡ i + cond (not b) (1 + m) 0
+first-or-next true i m r e = omega arith
+first-or-next false i m r e = omega arith
+
+find-within : (p : ℕ → Bool) (n i : ℕ) → find p n i ≤ i + n
+unfolding find
+find-within p zero i = omega arith
+find-within p (suc n) i = by (p i) (find p n (i + 1)) (find-within p n (i + 1))
+  where
+    by : (b : Bool) (r : ℕ) → r ≤ i + 1 + n → cond b i r ≤ i + suc n
+    by true r h = omega arith
+    by false r h = omega arith
+
+position_or_len-le : {X : Type 0} (p : X → Bool) (xs : List X) → position_or_len p xs ≤ length xs
+position_or_len-le p [] = omega arith
+position_or_len-le p (x ∷ xs) = by (p x) (position_or_len p xs) (length xs) (position_or_len-le p xs)
+  where
+    by : (b : Bool) (m k : ℕ) → m ≤ k → cond (not b) (1 + m) 0 ≤ suc k
+    by true m k h = omega arith
+    by false m k h = omega arith
+
+find-position : {X : Type 0} (p : X → Bool) (q : ℕ → Bool) (d : X) (xs : List X) (n i : ℕ) → length xs ≡ n
+    → ((k : ℕ) → k < n → q (i + k) ≡ p (get_or xs k d)) → find q n i ≡ i + position_or_len p xs
+unfolding find
+find-position p q d [] zero i e f = omega arith
+find-position p q d [] (suc n) i e f = absurd (omega arith)
+find-position p q d (x ∷ xs) zero i e f = absurd (omega arith)
+find-position p q d (x ∷ xs) (suc n) i e f =
+    let at : i ≡ i + 0 = omega arith in
+    let here : q i ≡ p x = ap q at ∙ f 0 (omega arith) in
+    let past : (k : ℕ) → k < n → q (i + 1 + k) ≡ p (get_or xs k d) =
+    λ k h. let next : i + 1 + k ≡ i + suc k = omega arith in ap q next ∙ f (suc k) (omega arith) in
+    ap (λ (b : Bool). cond b i (find q n (i + 1))) here
+    ∙ first-or-next (p x) i (position_or_len p xs) (find q n (i + 1)) (find-position p q d xs n (i + 1) (omega arith) past)
+
+pub find-first : (bs : List Board) (n channel : ℕ) → n ≤ length bs
+    → place_of bs n channel ≡ position_or_len (λ (b : Board). eqb b.channel channel) (take n bs)
+unfolding place_of
+find-first bs n channel h =
+    find-position (λ (b : Board). eqb b.channel channel) (has_channel bs channel) past_board (take n bs) n 0
+    (length-take-le n bs h)
+    (λ k below.
+    let at : 0 + k ≡ k = omega arith in
+    ap (has_channel bs channel) at ∙ ap (λ (b : Board). eqb b.channel channel) (sym (get_or-take n bs k past_board below)))
+    ∙ omega arith
+
+first-or-end : {X : Type 0} (p : X → Bool) (xs : List X) (n : ℕ) → length xs ≡ n → unwrap_or (position p xs) n ≡ position_or_len p xs
+first-or-end p xs n e = grind (arith, common_steps, position_or_len-le)
+
+pub first-place : (bs : List Board) (n channel : ℕ) → n ≤ length bs
+    → unwrap_or (position (λ (b : Board). eqb b.channel channel) (take n bs)) n ≡ place_of bs n channel
+first-place bs n channel h =
+    first-or-end (λ (b : Board). eqb b.channel channel) (take n bs) n (length-take-le n bs h) ∙ sym (find-first bs n channel h)
+
+pub place-within : (bs : List Board) (n channel : ℕ) → place_of bs n channel ≤ n
+unfolding place_of
+place-within bs n channel = omega (arith, find-within (has_channel bs channel) n 0)

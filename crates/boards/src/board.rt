@@ -1,5 +1,5 @@
 // A board that images can be sent to.
-#[derive(Clone, Copy)]
+#[derive(Clone, Copy, PartialEq, Eq)]
 pub struct Board {
     pub channel: u8,
     pub soft: [u8; 3],

@@ -41,35 +41,29 @@ fn report_data(boards: [Board; list::MAX_BOARDS], count: usize) -> [u8; MAX_REPO
 {
     let mut d = [0u8; MAX_REPORT];
     d[0] = count as u8;
-    let mut i = 0;
-    while i < count {
-        d = with_board(d, 1 + BOARD_SIZE * i, list::board_at(boards, i));
-        i += 1;
+    for (i, &board) in boards[..count].iter().enumerate() {
+        d = with_board(d, 1 + BOARD_SIZE * i, board);
     }
     d
 }
 
-fn with_board(d: [u8; MAX_REPORT], at: usize, board: Board) -> [u8; MAX_REPORT]
+fn with_board(mut d: [u8; MAX_REPORT], at: usize, board: Board) -> [u8; MAX_REPORT]
     ensures { result ≡ written_at d at (board_bytes board) }
 {
-    let mut next = d;
-    let piece = board_bytes(board);
-    place::write(&mut next, at, &piece);
-    next
+    place::write(&mut d, at, &board_bytes(board));
+    d
 }
 
 fn board_bytes(board: Board) -> [u8; BOARD_SIZE]
     ensures { result ≡ board_bytes board }
 {
-    let soft = board.soft;
-    let hard = board.hard;
+    let Board {
+        channel,
+        soft,
+        hard,
+        ..
+    } = board;
     [
-        board.channel,
-        soft[0],
-        soft[1],
-        soft[2],
-        hard[0],
-        hard[1],
-        hard[2],
+        channel, soft[0], soft[1], soft[2], hard[0], hard[1], hard[2],
     ]
 }

@@ -8,8 +8,10 @@ use Rattle.controller.specs.Records.{is_checking}
 use Rattle.controller.specs.Calls.{CallLeaves, fed_call, quieted_call}
 use Rattle.controller.specs.Portions.{PortionLeaves, portion_call}
 use Rattle.account.specs.declared.account.Account.{Account}
-use Rattle.account.specs.Accounts.{sum, nothing_told, CallTold, PortionTold, AllWritten}
+use Rattle.account.specs.Accounts.{sum, nothing_told, CallTold, PortionTold}
 use Rattle.bench.specs.Calls.{fresh_room, most_read}
+use Rattle.text.specs.declared.output.Output.{Output}
+use Rattle.text.specs.Outputs.{Flushed}
 use Rattle.capture.specs.declared.run.Run.{Run}
 use Rattle.capture.specs.declared.run.Unfed.{Unfed}
 use Rattle.capture.specs.declared.stage.Stage.{Stage}
@@ -17,8 +19,8 @@ use Rattle.capture.specs.declared.stage.Stage.TheVariants.{Feeding, Quiet, Ended
 use Rattle.capture.specs.Stages.{no_more, AfterRead, stage_quiet}
 
 -- the run ends after a failed write; and after a failed read or once quiet leaves nothing held, but then not while a check runs
-abbrev pub run_over : Run → Bool
-run_over run = run.account.lines.failed || (not (is_checking run.record) && no_more run.stage)
+abbrev pub run_over : Run → Output → Bool
+run_over run o = o.failed || (not (is_checking run.record) && no_more run.stage)
 
 -- "opens this board .. reads a capture": nothing is read, dropped or written yet
 abbrev pub start_run : Record → Run
@@ -29,44 +31,46 @@ abbrev pub unfed_after : Unfed → ℕ → Unfed
 unfed_after u taken = record { at = sum u.at taken; end = u.end }
 
 -- what a call makes of the run
-pub record Follows (run : Run) (c : Called) (room buffer : List ℕ) (stage : Stage) (r : Run) (after : List ℕ) : Type 0 where
+pub record Follows (run : Run) (c : Called) (room : List ℕ) (o : Output) (stage : Stage) (r : Run) (after : Output) : Type 0 where
   pub keeps : r.record ≡ c.next
   pub goes_on : r.stage ≡ stage
   pub takes : r.unfed ≡ unfed_after run.unfed c.taken
-  pub tells : CallTold run.account c room buffer r.account after
+  pub tells : CallTold run.account c room o r.account after
 
--- the run, the output buffer and the area are as the call leaves them
-pub record Passes (run : Run) (x : CallLeaves) (buffer : List ℕ) (stage : Stage) (r : Run) (after area : List ℕ) : Type 0 where
-  pub follows : Follows run x.called x.room buffer stage r after
+-- the run, the output and the area are as the call leaves them
+pub record Passes (run : Run) (x : CallLeaves) (o : Output) (stage : Stage) (r : Run) (after : Output) (area : List ℕ) : Type 0 where
+  pub follows : Follows run x.called x.room o stage r after
   pub leaves-area : area ≡ x.area
 
 -- quiet is told
 abbrev pub quiet_turn : Run → List ℕ → CallLeaves
 quiet_turn run area = quieted_call run.record fresh_room area
 
-abbrev pub Quieted : Run → List ℕ → List ℕ → Run → List ℕ → List ℕ → Type 0
-Quieted run buffer area r after area' =
+abbrev pub Quieted : Run → Output → List ℕ → Run → Output → List ℕ → Type 0
+Quieted run o area r after area' =
     let x = quiet_turn run area in
-    Passes run x buffer (stage_quiet x.called.next) r after area'
+    Passes run x o (stage_quiet x.called.next) r after area'
 
 -- the bytes of the input buffer that are still to be fed are fed
 abbrev pub feed_turn : Run → List ℕ → List ℕ → CallLeaves
 feed_turn run input area = fed_call (slice run.unfed.at run.unfed.end input) run.record fresh_room area
 
 -- no line waits any more, and the input buffer was read anew; or the lines could not be written, and it was not
-pub record ReadsOn (run : Run) (input : List ℕ) (r : Run) (input' : List ℕ) : Type 0 where
+pub record ReadsOn (run : Run) (input : List ℕ) (o : Output) (r : Run) (input' : List ℕ) (after : Output) : Type 0 where
   pub keeps : r.record ≡ run.record
-  pub writes : AllWritten run.account r.account
+  pub tells : r.account ≡ run.account
+  pub writes : Flushed o after
   pub starts : r.unfed.at ≡ 0
   pub within : r.unfed.end ≤ length input
-  pub goes_on : r.account.lines.failed ≡ false → AfterRead r.unfed.end r.stage
-  pub stops : r.account.lines.failed ≡ true → (r.stage ≡ Feeding) × ((r.unfed.end ≡ 0) × (input' ≡ input))
+  pub goes_on : after.failed ≡ false → AfterRead r.unfed.end r.stage
+  pub stops : after.failed ≡ true → (r.stage ≡ Feeding) × ((r.unfed.end ≡ 0) × (input' ≡ input))
 
 -- what is left in the input buffer is fed, and stays there; where nothing is, the input is read: what the buffer then holds is the read's
-pub record FeedsOrReads (run : Run) (input buffer area : List ℕ) (r : Run) (input' after area' : List ℕ) : Type 0 where
+pub record FeedsOrReads (run : Run) (input : List ℕ) (o : Output) (area : List ℕ) (r : Run) (input' : List ℕ) (after : Output)
+    (area' : List ℕ) : Type 0 where
   pub feeds : run.unfed.at < min run.unfed.end (length input)
-      → Passes run (feed_turn run input area) buffer Feeding r after area' × (input' ≡ input)
-  pub reads : min run.unfed.end (length input) ≤ run.unfed.at → ReadsOn run input r input' × ((after ≡ buffer) × (area' ≡ area))
+      → Passes run (feed_turn run input area) o Feeding r after area' × (input' ≡ input)
+  pub reads : min run.unfed.end (length input) ≤ run.unfed.at → ReadsOn run input o r input' after × (area' ≡ area)
 
 -- a portion of the end check
 abbrev pub portion_turn : Run → List ℕ → PortionLeaves
@@ -77,19 +81,19 @@ abbrev pub with_record : Run → Record → Account → Run
 with_record run r account = record { «record» = r; stage = run.stage; unfed = run.unfed; account = account }
 
 -- what a portion makes of the run
-pub record ChecksOn (run : Run) (x : PortionLeaves) (buffer : List ℕ) (r : Run) (after : List ℕ) : Type 0 where
+pub record ChecksOn (run : Run) (x : PortionLeaves) (o : Output) (r : Run) (after : Output) : Type 0 where
   pub keeps : r ≡ with_record run x.called.next r.account
-  pub tells : PortionTold run.account x.called x.room buffer r.account after
+  pub tells : PortionTold run.account x.called x.room o r.account after
 
 -- a turn: a portion while a check runs; else, by the stage, one call on the record, or one read of the input, and nothing once the run is
 -- over
-abbrev pub Turned : Bool → Stage → Run → List ℕ → List ℕ → List ℕ → Run → List ℕ → List ℕ → List ℕ → Type 0
-Turned true stage run input buffer area r input' after area' =
-    ChecksOn run (portion_turn run area) buffer r after × ((area' ≡ area) × (input' ≡ input))
-Turned false Feeding run input buffer area r input' after area' = FeedsOrReads run input buffer area r input' after area'
-Turned false Quiet run input buffer area r input' after area' = Quieted run buffer area r after area' × (input' ≡ input)
-Turned false Ended run input buffer area r input' after area' = (r ≡ run) × ((after ≡ buffer) × ((area' ≡ area) × (input' ≡ input)))
-Turned false ReadFailed run input buffer area r input' after area' = (r ≡ run) × ((after ≡ buffer) × ((area' ≡ area) × (input' ≡ input)))
+abbrev pub Turned : Bool → Stage → Run → List ℕ → Output → List ℕ → Run → List ℕ → Output → List ℕ → Type 0
+Turned true stage run input o area r input' after area' =
+    ChecksOn run (portion_turn run area) o r after × ((area' ≡ area) × (input' ≡ input))
+Turned false Feeding run input o area r input' after area' = FeedsOrReads run input o area r input' after area'
+Turned false Quiet run input o area r input' after area' = Quieted run o area r after area' × (input' ≡ input)
+Turned false Ended run input o area r input' after area' = (r ≡ run) × ((after ≡ o) × ((area' ≡ area) × (input' ≡ input)))
+Turned false ReadFailed run input o area r input' after area' = (r ≡ run) × ((after ≡ o) × ((area' ≡ area) × (input' ≡ input)))
 
 -- ---- all turns
 
@@ -100,13 +104,13 @@ most_turns = 18446744073709551615
 pub record Standing : Type 0 where
   pub run : Run
   pub input : List ℕ
-  pub output : List ℕ
+  pub output : Output
   pub area : List ℕ
 
 -- a turn of a run that is not over
 abbrev pub ReplayTurn : Standing → Standing → Type 0
 ReplayTurn s t =
-    (run_over s.run ≡ false)
+    (run_over s.run s.output ≡ false)
     × Turned (is_checking s.run.record) s.run.stage s.run s.input s.output s.area t.run t.input t.output
     t.area
 
@@ -119,4 +123,4 @@ pub data ReplayTurns (s : Standing) : ℕ → Standing → Type 0 where
 pub record Replayed (s t : Standing) : Type 0 where
   pub turns : ℕ
   pub made : ReplayTurns s turns t
-  pub over : (run_over t.run ≡ true) ⊎ (turns ≡ most_turns)
+  pub over : (run_over t.run t.output ≡ true) ⊎ (turns ≡ most_turns)

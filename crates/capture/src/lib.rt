@@ -6,6 +6,6 @@
 //   standard input, until `is_over`.
 // - `stage::Stage`: where it stands, and so why it was over.
 //
-// Input buffer, output buffer and area are lent by the caller.
+// Input buffer, output and area are lent by the caller.
 pub mod run;
 pub mod stage;

@@ -11,21 +11,21 @@ use Rattle.text.proofs.Texts.{◌then◌}
 use Rattle.carrier.specs.declared.carrier.Carrier.{Carrier}
 use Rattle.carrier.specs.Sending.{Carried, CarriesOn, told, passing, repeating}
 
-module _ {o : Output} {buffer : List ℕ} {r : Carrier} {memory after : List ℕ} where
-  pub carries_as : {x y : Carried} → x ≡ y → CarriesOn x o buffer r memory after → CarriesOn y o buffer r memory after
-  carries_as e k = subst (λ (x : Carried). CarriesOn x o buffer r memory after) e k
+module _ {o : Output} {r : Carrier} {memory : List ℕ} {after : Output} where
+  pub carries_as : {x y : Carried} → x ≡ y → CarriesOn x o r memory after → CarriesOn y o r memory after
+  carries_as e k = subst (λ (x : Carried). CarriesOn x o r memory after) e k
 
-  pub carries-told : {m : Output} {between : List ℕ} {texts : List (List ℕ)} {x : Carried}
-      → TextsAdded o texts buffer m between → CarriesOn x m between r memory after → CarriesOn (told texts x) o buffer r memory after
+  pub carries-told : {m : Output} {texts : List (List ℕ)} {x : Carried}
+      → TextsAdded o texts m → CarriesOn x m r memory after → CarriesOn (told texts x) o r memory after
   carries-told a k = record { links = k.links; leaves = k.leaves; holds = k.holds; tells = a then k.tells }
 
 -- the second copy goes behind the first
 pub carries-both :
-    (l : Link) (s : Script) (memory : List ℕ) (f : Frame) {o : Output} {buffer memory' between memory'' after : List ℕ} {one r : Carrier}
-    → CarriesOn (passing l s memory f) o buffer one memory' between
-    → CarriesOn (passing one.link one.script memory' f) one.output between r memory'' after
-    → CarriesOn (repeating l s memory f) o buffer r memory'' after
-carries-both l s memory f {o} {buffer} {memory'} {between} {memory''} {after} {one} {r} a b =
+    (l : Link) (s : Script) (memory : List ℕ) (f : Frame) {o between after : Output} {memory' memory'' : List ℕ} {one r : Carrier}
+    → CarriesOn (passing l s memory f) o one memory' between
+    → CarriesOn (passing one.link one.script memory' f) between r memory'' after
+    → CarriesOn (repeating l s memory f) o r memory'' after
+carries-both l s memory f {memory' = memory'} {one = one} a b =
     let x = passing l s memory f in
     let same = ap₂ (λ (k : Link) (t : Script). passing k t memory' f) a.links a.leaves
     ∙ ap (λ (m : List ℕ). passing x.link x.script m f) a.holds in

@@ -2,7 +2,7 @@
 use borrow.Author.Tests.{ne_eqb}
 use mathlib.Core.Path.{◌≡◌, refl, sym, ap}
 use mathlib.Core.List.{List, [], ◌++◌}
-use Prim.Native.Nat.{ℕ, zero, suc, ◌-◌, ◌<◌}
+use Prim.Native.Nat.{ℕ, zero, suc, ◌+◌, ◌-◌, ◌<◌}
 use native.Mathlib.Omega.{arith}
 use Rattle.link.specs.declared.link.Link.{Link}
 use Rattle.link.specs.Links.{frame_under_way, passed}
@@ -30,6 +30,11 @@ none_left zero l e = sym e
 none_left (suc n) l e = none_left n (passed l) (sym (passed-one n l e))
 
 module _ (l : Link) (some : 0 < l.count) where
+  pub one-fewer : (passed l).count + 1 ≡ l.count
+  one-fewer =
+      let less : l.count - 1 + 1 ≡ l.count = omega arith in
+      simp (ne_eqb _ _ (λ (none : l.count ≡ 0). absurd (omega arith))) less
+
   pub one-gone : all_gone (passed l) ≡ all_gone l
   one-gone = sym (one-gone-of l.count l refl some)
 

@@ -1,19 +1,17 @@
-// The link, its script, and the lines on their way to standard output.
+// The link and its script; the lines about the frames are put behind those that wait for standard output.
 ghost use Rattle.std.specs.Prelude.{◌≡◌, List, ℕ};
 ghost use Rattle.carrier.specs.Sending.{empty_carrier, passing, losing, sending, CarriesOn};
 ghost use Rattle.carrier.specs.Clearing.{cleared};
 
 use link::frame::Frame;
 use link::link::{Link, MEMORY, PLACES};
-use link::script;
-use link::script::Script;
-use text::output::{Output, SIZE};
+use link::script::{Letter, Script};
+use text::output::Output;
 
 #[derive(Clone, Copy)]
 pub struct Carrier {
     pub link: Link,
     pub script: Script,
-    pub output: Output,
 }
 
 impl Carrier {
@@ -24,68 +22,55 @@ impl Carrier {
         Carrier {
             link: Link::empty(),
             script,
-            output: Output::empty(),
         }
     }
 
-    // As the script's next letter says.
+    // As the script's next letter says; where none is left it passes.
     pub fn send(
         mut self,
         frame: Frame,
         letters: &[u8],
         memory: &mut [u8; MEMORY],
-        out: &mut [u8; SIZE],
+        output: &mut Output,
     ) -> Carrier
-        ensures { CarriesOn (sending self.link self.script memory.old frame letters.now)
-            self.output out.old result memory.new out.new }
+        ensures { CarriesOn (sending self.link self.script memory.old frame letters.now) output.old result memory.new output.new }
     {
-        let script = self.script;
-        let letter = script.next(letters);
-        self.script = script.after_sending(letters);
-        if letter == script::LOSE {
-            return self.lose(frame, out);
+        let letter = self.script.next(letters).unwrap_or(Letter::Pass);
+        self.script = self.script.after_sending(letters);
+        match letter {
+            Letter::Lose => self.lose(frame, output),
+            Letter::Repeat => self.pass(frame, memory, output).pass(frame, memory, output),
+            Letter::Pass | Letter::Silence => self.pass(frame, memory, output),
         }
-        if letter == script::REPEAT {
-            let one = self.pass(frame, &mut *memory, &mut *out);
-            return one.pass(frame, memory, out);
-        }
-        self.pass(frame, memory, out)
     }
 
     // Nothing is under way any more; each copy that was has this fate.
-    pub fn cleared(mut self, fate: &[u8], memory: &[u8; MEMORY], out: &mut [u8; SIZE]) -> Carrier
-        ensures { CarriesOn (cleared self.link self.script memory.now fate.now) self.output
-            out.old result memory.now out.new }
+    pub fn cleared(mut self, fate: &[u8], memory: &[u8; MEMORY], output: &mut Output) -> Carrier
+        ensures { CarriesOn (cleared self.link self.script memory.now fate.now) output.old result memory.now output.new }
     {
-        let mut output = self.output;
-        let mut link = self.link;
-        while link.count > 0 {
-            output = transcript::gone(output, link.oldest(memory), fate, &mut *out);
-            link = link.without_oldest();
+        for _ in 0..self.link.count {
+            transcript::gone(output, self.link.oldest(memory), fate);
+            self.link = self.link.without_oldest();
         }
-        self.output = output;
-        self.link = link;
         self
     }
 
     // A copy goes under way, or is lost where all places are taken.
-    fn pass(mut self, frame: Frame, memory: &mut [u8; MEMORY], out: &mut [u8; SIZE]) -> Carrier
-        ensures { CarriesOn (passing self.link self.script memory.old frame) self.output out.old result
-            memory.new out.new }
+    fn pass(mut self, frame: Frame, memory: &mut [u8; MEMORY], output: &mut Output) -> Carrier
+        ensures { CarriesOn (passing self.link self.script memory.old frame) output.old result memory.new output.new }
     {
-        let link = self.link;
-        if link.count < PLACES {
-            self.link = link.with(frame, memory);
-            return self;
+        if self.link.count < PLACES {
+            self.link = self.link.with(frame, memory);
+            self
+        } else {
+            self.lose(frame, output)
         }
-        self.lose(frame, out)
     }
 
-    fn lose(mut self, frame: Frame, out: &mut [u8; SIZE]) -> Carrier
-        ensures { (memory : List ℕ) → CarriesOn (losing self.link self.script memory frame) self.output
-            out.old result memory out.new }
+    fn lose(self, frame: Frame, output: &mut Output) -> Carrier
+        ensures { (memory : List ℕ) → CarriesOn (losing self.link self.script memory frame) output.old result memory output.new }
     {
-        self.output = transcript::gone(self.output, frame, b"lost", out);
+        transcript::gone(output, frame, b"lost");
         self
     }
 }

@@ -2,7 +2,7 @@
 
 // What a command of `console` changed: CHANGES of the two records, as docs/CONSOLE.md, "Output" has it. `|`, then each field that is
 // another than before with its value now, in the order of the document's tables. The texts are put behind those that wait for standard
-// output, in the buffer that the caller lends, and the output is handed back.
+// output.
 //
 // - `record::record`: between two records of the controller.
 // - `senders::sender`: between two of the sender.

@@ -6,84 +6,54 @@ ghost use Rattle.changes.specs.BoardLists.{same_board, version_texts, board_text
 
 use boards::board::Board;
 use boards::list::{MAX_BOARDS, board_at};
-use sequences::compare::{same3, same8};
-use text::output::{Output, SIZE};
+use text::output::Output;
 use values::field::bit;
-use values::hexes::{byte, digits, digits8};
+use values::hexes::{byte, digits};
 
 // Each board that is another than before.
-pub fn boards(
-    output: Output,
-    before: [Board; MAX_BOARDS],
-    after: [Board; MAX_BOARDS],
-    out: &mut [u8; SIZE],
-) -> Output
-    ensures { TextsAdded output (board_fields before after max_boards) out.old result out.new }
+pub fn boards(output: &mut Output, before: [Board; MAX_BOARDS], after: [Board; MAX_BOARDS])
+    ensures { TextsAdded output.old (board_fields before after max_boards) output.new }
 {
-    let mut told = output;
-    let mut i = 0;
-    while i < MAX_BOARDS {
-        told = place(told, i, board_at(before, i), board_at(after, i), &mut *out);
-        i += 1;
+    for i in 0..MAX_BOARDS {
+        place(output, i, board_at(before, i), board_at(after, i));
     }
-    told
 }
 
 // The board at place i.
-fn place(output: Output, i: usize, before: Board, after: Board, out: &mut [u8; SIZE]) -> Output
-    ensures { TextsAdded output (board_field i before after) out.old result out.new }
+fn place(output: &mut Output, i: usize, before: Board, after: Board)
+    ensures { TextsAdded output.old (board_field i before after) output.new }
 {
-    if same_board(before, after) {
-        return output;
+    if !same_board(before, after) {
+        output.text(b" board");
+        output.decimal(i as u64);
+        output.text(b"=");
+        board(output, after);
     }
-    let told = output
-        .text(b" board", &mut *out)
-        .decimal(i as u64, &mut *out);
-    board(told.text(b"=", &mut *out), after, out)
 }
 
 // `PERMIT,CHANNEL,SOFT,HARD,PID`
-fn board(output: Output, board: Board, out: &mut [u8; SIZE]) -> Output
-    ensures { TextsAdded output (board_texts board) out.old result out.new }
+fn board(output: &mut Output, board: Board)
+    ensures { TextsAdded output.old (board_texts board) output.new }
 {
-    let soft = board.soft;
-    let hard = board.hard;
-    let pid = board.pid;
-    let told = output
-        .decimal(bit(board.permit) as u64, &mut *out)
-        .text(b",", &mut *out);
-    let told = byte(told, board.channel, &mut *out).text(b",", &mut *out);
-    let told = version(version(told, soft, &mut *out), hard, &mut *out);
-    digits8(told, pid, out)
+    output.decimal(bit(board.permit) as u64);
+    output.text(b",");
+    byte(output, board.channel);
+    output.text(b",");
+    version(output, board.soft);
+    version(output, board.hard);
+    digits(output, &board.pid);
 }
 
 // A version, and the comma behind it.
-fn version(output: Output, bytes: [u8; 3], out: &mut [u8; SIZE]) -> Output
-    ensures { TextsAdded output (version_texts bytes) out.old result out.new }
+fn version(output: &mut Output, bytes: [u8; 3])
+    ensures { TextsAdded output.old (version_texts bytes) output.new }
 {
-    digits(output, &bytes, &mut *out).text(b",", out)
+    digits(output, &bytes);
+    output.text(b",");
 }
 
 fn same_board(a: Board, b: Board) -> bool
     ensures { result ≡ same_board a b }
 {
-    let soft = a.soft;
-    let other_soft = b.soft;
-    let hard = a.hard;
-    let other_hard = b.hard;
-    let pid = a.pid;
-    let other_pid = b.pid;
-    if a.permit != b.permit {
-        return false;
-    }
-    if a.channel != b.channel {
-        return false;
-    }
-    if same3(soft, other_soft) {
-        if same3(hard, other_hard) {
-            return same8(pid, other_pid);
-        }
-        return false;
-    }
-    false
+    a == b
 }

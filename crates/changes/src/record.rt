@@ -8,96 +8,76 @@ use controller::record::Record;
 use frames::reader::Reader;
 use image::check::Check;
 use session::session::Session;
-use text::output::{Output, SIZE};
+use text::output::Output;
 use transfer::identity::Identity;
 use transfer::state::{Leg, Transfer};
-use values::field;
+use values::{field, word};
 
-pub fn record(output: Output, before: Record, after: Record, out: &mut [u8; SIZE]) -> Output
-    ensures { TextsAdded output (record_texts before after) out.old result out.new }
+pub fn record(output: &mut Output, before: Record, after: Record)
+    ensures { TextsAdded output.old (record_texts before after) output.new }
 {
-    let session = before.session;
-    let next = after.session;
-    let told = opening(output.text(b"|", &mut *out), session, next, &mut *out);
-    let told = reader(told, before.reader, after.reader, &mut *out);
-    transfer(told, session.transfer, next.transfer, out)
+    output.text(b"|");
+    opening(output, before.session, after.session);
+    reader(output, before.reader, after.reader);
+    transfer(output, before.session.transfer, after.session.transfer);
 }
 
 // What opening sets: the board list and the opened length.
-fn opening(output: Output, before: Session, after: Session, out: &mut [u8; SIZE]) -> Output
-    ensures { TextsAdded output (opening_fields before after) out.old result out.new }
+fn opening(output: &mut Output, before: Session, after: Session)
+    ensures { TextsAdded output.old (opening_fields before after) output.new }
 {
-    let boards = before.boards;
-    let next = after.boards;
-    let told = field::number(output, b" boards=", before.count, after.count, &mut *out);
-    let told = list::boards(told, boards, next, &mut *out);
-    field::number(told, b" opened=", before.opened, after.opened, out)
+    field::number(output, b" boards=", before.count, after.count);
+    list::boards(output, before.boards, after.boards);
+    field::number(output, b" opened=", before.opened, after.opened);
 }
 
-fn reader(output: Output, before: Reader, after: Reader, out: &mut [u8; SIZE]) -> Output
-    ensures { TextsAdded output (reader_fields before after) out.old result out.new }
+fn reader(output: &mut Output, before: Reader, after: Reader)
+    ensures { TextsAdded output.old (reader_fields before after) output.new }
 {
-    let held = before.held;
-    let next = after.held;
-    let told = field::number(output, b" holding=", before.count, after.count, &mut *out);
-    field::held(told, held, next, out)
+    field::number(output, b" holding=", before.count, after.count);
+    field::held(output, &before.held, &after.held);
 }
 
-fn transfer(output: Output, before: Transfer, after: Transfer, out: &mut [u8; SIZE]) -> Output
-    ensures { TextsAdded output (transfer_fields before after) out.old result out.new }
+fn transfer(output: &mut Output, before: Transfer, after: Transfer)
+    ensures { TextsAdded output.old (transfer_fields before after) output.new }
 {
-    let progress = before.progress;
-    let next = after.progress;
-    let told = leg(output, before.leg, after.leg, &mut *out);
-    let told = field::number(told, b" stored=", progress.stored, next.stored, &mut *out);
-    let told = identity(told, before.image, after.image, &mut *out);
-    let told = field::number(told, b" last=", progress.last, next.last, &mut *out);
-    check(told, before.check, after.check, out)
-}
-
-fn leg(output: Output, before: Leg, after: Leg, out: &mut [u8; SIZE]) -> Output
-    ensures { TextsAdded output (leg_fields before after) out.old result out.new }
-{
-    let was = before.phase;
-    let is = after.phase;
-    let told = field::phase(output, was, is, &mut *out);
-    let told = field::channel(told, b" channel=", before.channel, after.channel, &mut *out);
-    let told = field::number(told, b" agreed=", before.agreed, after.agreed, &mut *out);
-    field::number(told, b" next=", before.next, after.next, out)
-}
-
-fn identity(output: Output, before: Identity, after: Identity, out: &mut [u8; SIZE]) -> Output
-    ensures { TextsAdded output (identity_fields before after) out.old result out.new }
-{
-    let version = before.version;
-    let next_version = after.version;
-    let md5 = before.md5;
-    let next_md5 = after.md5;
-    let told = field::channel(
+    leg(output, before.leg, after.leg);
+    field::number(
         output,
-        b" image-channel=",
-        before.channel,
-        after.channel,
-        &mut *out,
+        b" stored=",
+        before.progress.stored,
+        after.progress.stored,
     );
-    let told = field::version(told, version, next_version, &mut *out);
-    let told = field::number(
-        told,
-        b" announced=",
-        before.announced,
-        after.announced,
-        &mut *out,
-    );
-    let told = field::md5(told, md5, next_md5, &mut *out);
-    field::four_bytes(told, b" crc=", before.crc, after.crc, out)
+    identity(output, before.image, after.image);
+    field::number(output, b" last=", before.progress.last, after.progress.last);
+    check(output, before.check, after.check);
 }
 
-fn check(output: Output, before: Check, after: Check, out: &mut [u8; SIZE]) -> Output
-    ensures { TextsAdded output (check_fields before after) out.old result out.new }
+fn leg(output: &mut Output, before: Leg, after: Leg)
+    ensures { TextsAdded output.old (leg_fields before after) output.new }
+{
+    field::phase(output, word::phase(before.phase), word::phase(after.phase));
+    field::channel(output, b" channel=", before.channel, after.channel);
+    field::number(output, b" agreed=", before.agreed, after.agreed);
+    field::number(output, b" next=", before.next, after.next);
+}
+
+fn identity(output: &mut Output, before: Identity, after: Identity)
+    ensures { TextsAdded output.old (identity_fields before after) output.new }
+{
+    field::channel(output, b" image-channel=", before.channel, after.channel);
+    field::bytes(output, b" version=", &before.version, &after.version);
+    field::number(output, b" announced=", before.announced, after.announced);
+    field::bytes(output, b" md5=", &before.md5, &after.md5);
+    field::four_bytes(output, b" crc=", before.crc, after.crc);
+}
+
+fn check(output: &mut Output, before: Check, after: Check)
+    ensures { TextsAdded output.old (check_fields before after) output.new }
 {
     let was = field::bit(before.running);
     let is = field::bit(after.running);
-    let told = field::number(output, b" checking=", was, is, &mut *out);
-    let told = field::number(told, b" read=", before.read, after.read, &mut *out);
-    field::four_bytes(told, b" register=", before.register, after.register, out)
+    field::number(output, b" checking=", was, is);
+    field::number(output, b" read=", before.read, after.read);
+    field::four_bytes(output, b" register=", before.register, after.register);
 }

@@ -1,34 +1,50 @@
-// The outcome numbers of documents 01 and 02, for both ends.
-pub const ACCEPTED: u8 = 0;
+// What a call comes to, for both ends, and its number in documents 01 and 02.
+ghost use Rattle.std.specs.Prelude.{◌≡◌};
+ghost use Rattle.commands.specs.Outcomes.{outcome_number};
 
-pub const NO_FRAME_YET: u8 = 1;
+#[derive(Clone, Copy, PartialEq, Eq)]
+pub enum Outcome {
+    Accepted,
+    NoFrameYet,
+    UnlistedCommand,
+    WrongHeader,
+    UnlistedChannel,
+    ShortRoom,
+    OtherArea,
+    BadArea,
+    BadList,
+    RulesBroken,
+    WrongPhase,
+    ShortReportRoom,
+    CheckRuns,
+    NoCheckRuns,
+    Unfinished,
+    WrongImage,
+    WrongReply,
+}
 
-pub const UNLISTED_COMMAND: u8 = 2;
+impl From<Outcome> for u8 {
+    ghost from_gives = { λ o n. n ≡ outcome_number o };
 
-pub const WRONG_HEADER: u8 = 3;
-
-pub const UNLISTED_CHANNEL: u8 = 4;
-
-pub const SHORT_ROOM: u8 = 5;
-
-pub const OTHER_AREA: u8 = 6;
-
-pub const BAD_AREA: u8 = 7;
-
-pub const BAD_LIST: u8 = 8;
-
-pub const RULES_BROKEN: u8 = 9;
-
-pub const WRONG_PHASE: u8 = 10;
-
-pub const SHORT_REPORT_ROOM: u8 = 11;
-
-pub const CHECK_RUNS: u8 = 12;
-
-pub const NO_CHECK_RUNS: u8 = 18;
-
-pub const UNFINISHED: u8 = 19;
-
-pub const WRONG_IMAGE: u8 = 20;
-
-pub const WRONG_REPLY: u8 = 21;
+    fn from(outcome: Outcome) -> u8 {
+        match outcome {
+            Outcome::Accepted => 0,
+            Outcome::NoFrameYet => 1,
+            Outcome::UnlistedCommand => 2,
+            Outcome::WrongHeader => 3,
+            Outcome::UnlistedChannel => 4,
+            Outcome::ShortRoom => 5,
+            Outcome::OtherArea => 6,
+            Outcome::BadArea => 7,
+            Outcome::BadList => 8,
+            Outcome::RulesBroken => 9,
+            Outcome::WrongPhase => 10,
+            Outcome::ShortReportRoom => 11,
+            Outcome::CheckRuns => 12,
+            Outcome::NoCheckRuns => 18,
+            Outcome::Unfinished => 19,
+            Outcome::WrongImage => 20,
+            Outcome::WrongReply => 21,
+        }
+    }
+}

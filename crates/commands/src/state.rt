@@ -1,5 +1,5 @@
 // The states in the controller's replies, by command, with document 01's words. They stand in the place of FA's flag too. `specs/States`
-// has the same numbers.
+// has the same numbers. Bytes, not enums: `replies` writes and reads any byte in that place, and the promises of both say so.
 // Every command that has a state: granted; FE: the image is whole and its CRC-32 is right.
 pub const GRANTED: u8 = 0;
 

@@ -1,7 +1,8 @@
 // The command table of document 01.
-ghost use Rattle.std.specs.Prelude.{◌≡◌, ◌≤◌, ◌<◌};
-ghost use Rattle.commands.specs.Table.{command_count, place_in_table, row_at, RowOf, header_of, bad_header};
+ghost use Rattle.std.specs.Prelude.{◌≡◌, ◌==◌, find};
+ghost use Rattle.commands.specs.Table.{table, RowOf, header_of, bad_header};
 
+// Numbers, not an enum: `header_of`, `row_of` and all that is built on them take any command byte.
 pub const F9: u8 = 0xF9;
 
 pub const FA: u8 = 0xFA;
@@ -78,7 +79,7 @@ pub const TABLE: [Row; COUNT] = [
     },
 ];
 
-#[derive(Clone, Copy)]
+#[derive(Clone, Copy, PartialEq, Eq)]
 pub enum Header {
     // The command is not in the table.
     Unlisted,
@@ -91,65 +92,37 @@ pub enum Header {
 pub fn header_of(version: u8, command: u8, length: usize) -> Header
     ensures { result ≡ header_of version command length }
 {
-    let i = place_of(command);
-    if i < COUNT {
-        if bad_header(i, version, length) {
-            return Header::Wrong;
-        }
-        return Header::Right;
+    match listed(command) {
+        None => Header::Unlisted,
+        Some(row) if bad_header(row, version, length) => Header::Wrong,
+        Some(_) => Header::Right,
     }
-    Header::Unlisted
 }
 
-fn bad_header(i: usize, version: u8, length: usize) -> bool
-    requires { i < command_count }
-    ensures { result ≡ bad_header (row_at i) version length }
+fn bad_header(row: Row, version: u8, length: usize) -> bool
+    ensures { result ≡ bad_header row version length }
 {
-    let row = row_at(i);
-    if version != row.version {
-        return true;
-    }
-    if length < row.least {
-        return true;
-    }
-    row.most < length
+    version != row.version || length < row.least || row.most < length
 }
 
 // A command's row; all zero where the table has none.
 pub fn row_of(command: u8) -> Row
     ensures { RowOf command result }
 {
-    let i = place_of(command);
-    if i < COUNT {
-        return row_at(i);
-    }
-    Row {
+    listed(command).unwrap_or(Row {
         command: 0,
         version: 0,
         least: 0,
         most: 0,
         reply_version: 0,
         reply_length: 0,
-    }
+    })
 }
 
-// The place of a command in the table, or the table's length.
-fn place_of(command: u8) -> usize
-    ensures { (result ≡ place_in_table command) × (result ≤ command_count) }
+// A command's row.
+#[tactic(auto, unfolding(crate::specs::Table::table))]
+fn listed(command: u8) -> Option<Row>
+    ensures { result ≡ find (λ row. row.command == command) table }
 {
-    let mut i = 0;
-    while i < COUNT {
-        if TABLE[i].command == command {
-            return i;
-        }
-        i += 1;
-    }
-    COUNT
-}
-
-fn row_at(i: usize) -> Row
-    requires { i < command_count }
-    ensures { result ≡ row_at i }
-{
-    TABLE[i]
+    TABLE.iter().copied().find(|row| row.command == command)
 }

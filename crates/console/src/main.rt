@@ -19,7 +19,7 @@ use desk::run::Run;
 use lines::lines::INPUT;
 use phrases::phrase::BYTES;
 use std::io::Stdin;
-use text::output::SIZE;
+use text::output::Output;
 
 // Standard error's descriptor.
 const STDERR: i32 = 2;
@@ -32,7 +32,7 @@ fn main(rt: HostRuntime) {
     let mut image = [0u8; IMAGE];
     let mut kept = io::large_buffer();
     let mut kept_area = io::large_buffer();
-    let mut out = io::large_buffer();
+    let mut output = Output::empty();
     let run = session(
         rt.stdin(),
         &mut input,
@@ -42,13 +42,13 @@ fn main(rt: HostRuntime) {
         &mut image,
         &mut kept,
         &mut kept_area,
-        &mut out,
+        &mut output,
     );
-    finish(run, &out);
+    finish(run, &mut output);
 }
 
-// Turns until the session is over. A proved loop has to end, and nothing says that the input does: the turns are counted down from a
-// number that no session uses up.
+// Turns until the session is over. A proved loop has to end, and nothing says that the input does: there are as many turns as no session
+// uses up.
 fn session(
     stdin: Stdin,
     input: &mut [u8; INPUT],
@@ -58,35 +58,24 @@ fn session(
     image: &mut [u8; IMAGE],
     kept: &mut [u8; MEMORY],
     kept_area: &mut [u8; MEMORY],
-    out: &mut [u8; SIZE],
+    output: &mut Output,
 ) -> Run {
     let mut run = Run::start();
-    let mut turns = u64::MAX;
-    while turns > 0 {
+    for _ in 0..u64::MAX {
         if run.is_over {
             return run;
         }
         run = run.turn(
-            stdin,
-            &mut *input,
-            &mut *bytes,
-            &mut *room,
-            &mut *area,
-            &mut *image,
-            &mut *kept,
-            &mut *kept_area,
-            &mut *out,
+            stdin, input, bytes, room, area, image, kept, kept_area, output,
         );
-        turns -= 1;
     }
     run
 }
 
 // What is left to write and to say once the session is over.
-fn finish(run: Run, out: &[u8; SIZE]) {
-    let output = run.desk.output;
-    let written = output.flush(out);
-    if written.failed {
+fn finish(run: Run, output: &mut Output) {
+    output.flush();
+    if output.failed {
         complain(b"console: cannot write to standard output\n");
     }
     if run.lines.failed {

@@ -6,7 +6,6 @@ use mathlib.Core.List.{List, [], ◌∷◌, ◌++◌}
 use Prim.Native.Nat.{ℕ, zero, suc, ◌+◌, ◌*◌, ◌≤◌, ◌<◌}
 use native.Mathlib.Omega.{arith}
 use native.Mathlib.Nat.{suc-mul}
-use borrow.Author.Tests.{eqb-true}
 use lib.Dec.{eqb}
 use lib.ListN.{length, take, drop, replicate}
 use Rattle.crc.specs.Crc.{update, finish, crc32}
@@ -30,7 +29,9 @@ use Rattle.session.specs.Checking.{checked}
 use Rattle.session.proofs.Lawfuls.{lawful}
 use Rattle.session.specs.Transfers.{with_transfer}
 use Rattle.session.proofs.Checks.{due_of, unended, finished-by}
+use Rattle.commands.specs.Outcomes.{accepted}
 use Rattle.controller.specs.declared.record.Record.{Record}
+use Rattle.commands.specs.Outcomes.{same_outcome}
 use Rattle.controller.specs.Records.{unlawful_record, is_checking}
 use Rattle.controller.specs.Calls.{refusal_of, reply_in, called_by}
 use Rattle.controller.specs.Portions.{PortionLeaves, checked_portion, portion_call, CallKind, line_call, portion}
@@ -40,6 +41,7 @@ use Rattle.controller.proofs.Refusals.{lawful_record, record_accepted, Accepted,
 use Rattle.controller.proofs.Settling.{verdict-reply, ended-still}
 use Rattle.controller.proofs.Keeping.{portion-refused, portion-accepted}
 use Rattle.controller.proofs.RunningChecks.{enough, reading-leaves}
+use Rattle.commands.proofs.Outcomes.{same-true}
 
 true_false : {A : Type 0} → true ≡ false → A
 true_false e = let z : ◌≡◌ {A = ℕ} 0 1 = cc in absurd (omega arith)
@@ -147,7 +149,7 @@ module _ (r : Record) (ok : unlawful_record r ≡ false) (runs : is_checking r �
       y = portion_call k x.at c.room c.memory
 
       abbrev code : Bool
-      code = eqb (refusal_of x.at (length c.room) (length c.memory)) 0
+      code = same_outcome (refusal_of x.at (length c.room) (length c.memory)) accepted
 
       after_is : (w : PortionLeaves) → y ≡ w
           → course_after (portion k) c x ≡ record {
@@ -183,7 +185,7 @@ module _ (r : Record) (ok : unlawful_record r ≡ false) (runs : is_checking r �
       -- one that is not refused
       module _ (e : code ≡ true) (same : SameImageIn c) where
         abbrev a : Accepted x.at (length c.room) (length c.memory)
-        a = accepted-of x.at (length c.room) (length c.memory) (eqb-true _ _ e)
+        a = accepted-of x.at (length c.room) (length c.memory) (same-true _ _ e)
 
         lawful-u : unlawful u ≡ false
         lawful-u = subst (λ (z : Session). unlawful z ≡ false) g.session (lawful_record x.at g.lawful-here).session
@@ -273,7 +275,7 @@ module _ (r : Record) (ok : unlawful_record r ≡ false) (runs : is_checking r �
       none false = omega arith
   step-stands (portion k) c n x g same = go (lends_enough s.opened c) refl
     where
-      code_is : (b : Bool) → lends_enough s.opened c ≡ b → eqb (refusal_of x.at (length c.room) (length c.memory)) 0 ≡ b
+      code_is : (b : Bool) → lends_enough s.opened c ≡ b → same_outcome (refusal_of x.at (length c.room) (length c.memory)) accepted ≡ b
       code_is b e = enough x.at c g.lawful-here ∙ ap (λ (z : Session). lends_enough z.opened c) g.session ∙ e
 
       go : (b : Bool) → lends_enough s.opened c ≡ b → Stands (n + cond (lends_enough s.opened c) k 0) (course_after (portion k) c x)
@@ -283,10 +285,10 @@ module _ (r : Record) (ok : unlawful_record r ≡ false) (runs : is_checking r �
           going-stands n _ _ is (going-short n x g) (refused-goes n x g k c (code_is false e))
       go true e =
           let is : n + cond (lends_enough s.opened c) k 0 ≡ n + k = ap (λ (b : Bool). n + cond b k 0) e in
-          let accepted = code_is true e in
+          let taken = code_is true e in
           record {
-            before = λ h. going_more (n + k) _ _ is (portion-goes n x g k c accepted same (subst (λ (m : ℕ). m < left) is h));
-            finally = λ h. portion-ends n x g k c accepted same (subst (λ (m : ℕ). left ≤ m) is h);
+            before = λ h. going_more (n + k) _ _ is (portion-goes n x g k c taken same (subst (λ (m : ℕ). m < left) is h));
+            finally = λ h. portion-ends n x g k c taken same (subst (λ (m : ℕ). left ≤ m) is h);
           }
 
   -- one call, and then the others

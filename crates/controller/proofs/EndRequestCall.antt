@@ -26,7 +26,7 @@ use Rattle.ending.specs.Portions.{unread, will_say, right_crc}
 use Rattle.ending.proofs.Ends.{started-says}
 use Rattle.session.specs.declared.session.Session.{Session}
 use Rattle.session.specs.declared.answer.Answer.{Answer}
-use Rattle.commands.specs.Outcomes.{accepted}
+use Rattle.commands.specs.Outcomes.{accepted, unlisted_command, wrong_header, unlisted_channel, check_runs}
 use Rattle.session.specs.Lawful.{unlawful}
 use Rattle.session.specs.Answering.{stepped, place_for, answered, area_after, by_header}
 use Rattle.session.specs.OneGo.{in_one_go}
@@ -47,6 +47,8 @@ use Rattle.controller.proofs.Steps.{reply_in_lem, calling_accepted}
 use Rattle.controller.proofs.Settling.{ended-reply}
 use Rattle.controller.proofs.RunningChecks.{while_checking, frame-meets-check}
 use Rattle.controller.proofs.Courses.{AllSame, Done, stands_at, any_memory}
+use Rattle.commands.proofs.Outcomes.{is-same}
+use Rattle.commands.proofs.Outcomes.{same-false}
 
 true_false : {A : Type 0} → true ≡ false → A
 true_false e = let z : ◌≡◌ {A = ℕ} 0 1 = cc in absurd (omega arith)
@@ -99,7 +101,7 @@ module _ (call : Call) (untaken : List ℕ) (r : Record) (channel : ℕ) (room a
 
   call-is : x ≡ answer_is a
   unfolding finished_call
-  call-is = calling_accepted (fed_by call untaken) r room area (eq-eqb _ _ ok) ∙ rw found
+  call-is = calling_accepted (fed_by call untaken) r room area (is-same _ _ ok) ∙ rw found
 
   lawful-r : unlawful_record r ≡ false
   lawful-r = (accepted-of r (length room) (length area) ok).lawful
@@ -302,13 +304,14 @@ end_request_meets_check call untaken r channel room area ok runs found is =
     let not-f9 : eqb f.frame.command 0xF9 ≡ false = ap (λ (n : ℕ). eqb n 0xF9) is.command in
     let outcome =
     frame-meets-check call untaken r room area ok runs found
-    ∙ ap (λ (h : Header). by_header h 2 3 (cond (eqb f.frame.command 0xF9) 0 (cond listed 12 4))) (fe-header f.frame channel is)
-    ∙ ap (λ (b : Bool). cond b 0 (cond listed 12 4)) not-f9 in
+    ∙ ap (λ (h : Header). by_header h unlisted_command wrong_header
+    (cond (eqb f.frame.command 0xF9) accepted (cond listed check_runs unlisted_channel))) (fe-header f.frame channel is)
+    ∙ ap (λ (b : Bool). cond b accepted (cond listed check_runs unlisted_channel)) not-f9 in
     ((while_checking call untaken r room area runs).no-reply, (outcome, λ four c. go listed refl (sym outcome ∙ four) c))
   where
     go : (b : Bool) → ltb (place_for r.session (fed_by call untaken r.reader).frame) r.session.count ≡ b
-        → ◌≡◌ {A = ℕ} (cond b 12 4) 4 → Complete r.session.transfer channel area → ⊥
-    go true e four c = omega arith
+        → cond b check_runs unlisted_channel ≡ unlisted_channel → Complete r.session.transfer channel area → ⊥
+    go true e four c = same-false check_runs unlisted_channel refl four
     go false e four c =
         let a = accepted-of r (length room) (length area) ok in
         unlisted_incomplete r.session (fed_by call untaken r.reader).frame channel area (lawful_record r a.lawful).session

@@ -5,7 +5,7 @@ use mathlib.Core.Logic.{◌↔◌}
 use mathlib.Core.List.{List, [], ◌∷◌, ◌++◌, append_assoc, append-nil}
 use Prim.Native.Nat.{ℕ, ◌+◌, ◌%◌, ◌≤◌}
 use native.Mathlib.Omega.{arith}
-use borrow.Author.Tests.{eqb-true, eq-eqb, le-ltb}
+use borrow.Author.Tests.{eq-eqb, le-ltb}
 use lib.Dec.{eqb, ltb}
 use lib.ListN.{length, take}
 use lib.Seq.{take-length}
@@ -19,7 +19,9 @@ use Rattle.ending.specs.FE.{reaches_crc}
 use Rattle.session.specs.declared.check.Checked.{Checked}
 use Rattle.session.specs.Transfers.{transfer_on, own_transfer}
 use Rattle.session.specs.EndRequest.{IsEndRequest, Complete}
+use Rattle.commands.specs.Outcomes.{accepted}
 use Rattle.controller.specs.declared.record.Record.{Record}
+use Rattle.commands.specs.Outcomes.{same_outcome}
 use Rattle.controller.specs.Records.{is_checking}
 use Rattle.controller.specs.Calls.{min_room, refusal_of, CallLeaves, fed_call, reply_in}
 use Rattle.controller.specs.Portions.{PortionLeaves, checked_portion, portion_call, portion}
@@ -34,6 +36,7 @@ use Rattle.image.specs.declared.check.Verdict.{Verdict}
 use Rattle.image.specs.declared.check.Verdict.TheVariants.{Unfinished, Right, Wrong}
 use Rattle.session.specs.Checking.{outcome_of}
 use Rattle.controller.proofs.PortionLeavings.{portion-leaving}
+use Rattle.commands.proofs.Outcomes.{same-true}
 
 -- ---- the bytes are the frames'
 
@@ -62,15 +65,15 @@ module _ (channel : ℕ) where
 -- no reply, and the record stays
 unchecked : (n : ℕ) (r : Record) (room area : List ℕ) → is_checking r ≡ false
     → ((portion_call n r room area).called.reply_length ≡ 0) × ((portion_call n r room area).called.next ≡ r)
-unchecked n r room area still = go (eqb (refusal_of r (length room) (length area)) 0) refl
+unchecked n r room area still = go (same_outcome (refusal_of r (length room) (length area)) accepted) refl
   where
     P : PortionLeaves → Type 0
     P x = (x.called.reply_length ≡ 0) × (x.called.next ≡ r)
 
-    go : (b : Bool) → eqb (refusal_of r (length room) (length area)) 0 ≡ b → P (portion_call n r room area)
+    go : (b : Bool) → same_outcome (refusal_of r (length room) (length area)) accepted ≡ b → P (portion_call n r room area)
     go false e = subst P (sym (portion-refused n r room area e)) (refl, refl)
     go true e =
-        let a = accepted-of r (length room) (length area) (eqb-true _ _ e) in
+        let a = accepted-of r (length room) (length area) (same-true _ _ e) in
         let none = no-check r.session n area (lawful_record r a.lawful).session a.size still in
         subst P (sym (portion-accepted n r room area e ∙ ap (λ (c : Checked). checked_portion c r room) none)) (refl, refl)
 
@@ -93,7 +96,7 @@ portions room area (n ∷ ns) = later room area n ∷ portions room area ns
 -- once a verdict is given no check runs
 given-ends : (n : ℕ) (r : Record) (room area : List ℕ) → is_given (portion_call n r room area).called.verdict ≡ true
     → is_checking (portion_call n r room area).called.next ≡ false
-given-ends n r room area given = go (is_checking r) (eqb (refusal_of r (length room) (length area)) 0) refl refl
+given-ends n r room area given = go (is_checking r) (same_outcome (refusal_of r (length room) (length area)) accepted) refl refl
   where
     x : PortionLeaves
     x = portion_call n r room area
@@ -101,16 +104,16 @@ given-ends n r room area given = go (is_checking r) (eqb (refusal_of r (length r
     no : {A : Type 0} → x.called.verdict ≡ Unfinished → A
     no e = let z = sym (ap is_given e) ∙ given in let y : ◌≡◌ {A = ℕ} 0 1 = cc in absurd (omega arith)
 
-    go : (a b : Bool) → is_checking r ≡ a → eqb (refusal_of r (length room) (length area)) 0 ≡ b → is_checking x.called.next ≡ false
+    go : (a b : Bool) → is_checking r ≡ a → same_outcome (refusal_of r (length room) (length area)) accepted ≡ b → is_checking x.called.next ≡ false
     go a false ea eb = no (ap (λ (l : PortionLeaves). l.called.verdict) (portion-refused n r room area eb))
     go false true ea eb = ap is_checking (unchecked n r room area ea).1 ∙ ea
     go true true ea eb =
         let o = portion-leaving n r room area in
-        let c = o.counted (eqb-true _ _ eb) ea in
+        let c = o.counted (same-true _ _ eb) ea in
         let done = o.finished (c.number ∙ given_0 x.called.verdict given) in
         ap (λ (k : Check). k.running) done.0
       where
-        given_0 : (v : Verdict) → is_given v ≡ true → outcome_of v ≡ 0
+        given_0 : (v : Verdict) → is_given v ≡ true → outcome_of v ≡ accepted
         given_0 Unfinished e = let y : ◌≡◌ {A = ℕ} 0 1 = cc in absurd (omega arith)
         given_0 Right e = refl
         given_0 Wrong e = refl
@@ -173,7 +176,7 @@ module _ (room area : List ℕ) (wide : min_room ≤ length room) where
 
 -- ---- the claim
 
-module _ (r : Record) (channel : ℕ) (room area ns : List ℕ) (ok : refusal_of r (length room) (length area) ≡ 0)
+module _ (r : Record) (channel : ℕ) (room area ns : List ℕ) (ok : refusal_of r (length room) (length area) ≡ accepted)
     (none : r.reader.count ≡ 0)
     (still : is_checking r ≡ false) (asked : (own_transfer r.session).image.announced ≤ total ns) where
   abbrev bytes : List ℕ

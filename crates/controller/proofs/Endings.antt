@@ -5,7 +5,6 @@ use mathlib.Core.Bool.{Bool, true, false, cond, ◌||◌}
 use mathlib.Core.List.{List, [], ◌∷◌}
 use Prim.Native.Nat.{ℕ, zero, suc, ◌+◌, ◌<◌}
 use native.Mathlib.Omega.{arith}
-use borrow.Author.Tests.{eq-eqb}
 use lib.Dec.{lit≤}
 use lib.ListN.{length, take, drop, length-drop}
 use lib.Seq.{drop-nil, take-length, drop-length}
@@ -19,6 +18,7 @@ use Rattle.frames.proofs.Calls.{call-keeps, held-again, quiet-emptied}
 use Rattle.ending.specs.Portions.{unread, will_say}
 use Rattle.session.specs.declared.check.Checked.{Checked}
 use Rattle.session.proofs.Checks.{finished-by}
+use Rattle.commands.specs.Outcomes.{accepted}
 use Rattle.controller.specs.Calls.{min_room}
 use Rattle.controller.specs.declared.record.Record.{Record}
 use Rattle.controller.specs.Portions.{PortionLeaves, checked_portion, CallKind, line_call, portion}
@@ -29,6 +29,7 @@ use Rattle.controller.proofs.Steps.{state_of, held_of, given_state, landed, on_o
 use Rattle.controller.proofs.Settling.{ended-still}
 use Rattle.controller.proofs.Keeping.{Keeps, portion-accepted, next-keeps}
 use Rattle.controller.proofs.StrayBytes.{start_state, start-keeps, run-keeps, strays_cost_nothing, other-strays}
+use Rattle.commands.proofs.Outcomes.{is-same}
 
 -- a room that is wide enough
 abbrev room : List ℕ
@@ -41,7 +42,7 @@ or_true false = refl
 module _ (s₀ : State) (fs : List Frame) (n : ℕ) where
   is-accepted : (k : CallKind) (p : Place) → Keeps s₀ fs n p → is_accepted (record { kind = k; room = room; lends = own }) p ≡ true
   is-accepted k p i =
-      eq-eqb _ 0
+      is-same _ accepted
       (accepts p.at (length room) (length p.area)
       (record {
         lawful = record_accepted p.at (record { count = i.count; session = i.good.lawful });

@@ -5,8 +5,7 @@ use mathlib.Core.Logic.{⊎_elim}
 use mathlib.Core.List.{List, [], ◌∷◌, ◌++◌, append-nil, append_assoc}
 use Prim.Native.Nat.{ℕ, ◌+◌, ◌≤◌, ◌<◌}
 use native.Mathlib.Omega.{arith}
-use borrow.Author.Tests.{eqb-true, eq-eqb}
-use lib.Dec.{eqb}
+use borrow.Author.Tests.{eq-eqb}
 use lib.ListN.{length, drop, length-take}
 use lib.Seq.{drop-nil}
 use Rattle.fronts.specs.Frame.{max_frame, Frame, encode}
@@ -30,7 +29,9 @@ use Rattle.session.specs.Checking.{refused_check, checked}
 use Rattle.session.specs.Transfers.{with_transfer}
 use Rattle.session.proofs.Kept.{answer_keeps, area-size}
 use Rattle.session.proofs.Checks.{due_of, unended, finished-by}
+use Rattle.commands.specs.Outcomes.{accepted, no_check_runs}
 use Rattle.controller.specs.declared.record.Record.{Record}
+use Rattle.commands.specs.Outcomes.{same_outcome}
 use Rattle.controller.specs.Calls.{min_room, refusal_of}
 use Rattle.controller.specs.Portions.{PortionLeaves, refused_portion, checked_portion, portion_call, CallKind, line_call, portion}
 use Rattle.controller.specs.Demand3.{State, step_to, reply_to, Lent, own, other, Listed, Place, lent, checking, is_accepted}
@@ -38,6 +39,7 @@ use Rattle.controller.specs.Demand3.{is_quiet, after_portion, next, Allowed}
 use Rattle.controller.proofs.Refusals.{accepted-of}
 use Rattle.controller.proofs.Steps.{state_of, held_of, given_state, given_reply, landed, on_own, next-refused, next-landed}
 use Rattle.controller.proofs.Settling.{settled_state, due_reply, Good, verdict-reply, ended-still, landed_settled, landed-reply}
+use Rattle.commands.proofs.Outcomes.{same-true}
 
 pub given-good : (s : State) (f : Frame) → Good s → Good (given_state s f)
 given-good s f g =
@@ -46,19 +48,19 @@ given-good s f g =
 
 -- ---- a portion call
 
-pub portion-refused : (most : ℕ) (r : Record) (room area : List ℕ) → eqb (refusal_of r (length room) (length area)) 0 ≡ false
+pub portion-refused : (most : ℕ) (r : Record) (room area : List ℕ) → same_outcome (refusal_of r (length room) (length area)) accepted ≡ false
     → portion_call most r room area ≡ record { called = refused_portion (refusal_of r (length room) (length area)) r; room = room }
 unfolding portion_call
 portion-refused most r room area e = rw e
 
-pub portion-accepted : (most : ℕ) (r : Record) (room area : List ℕ) → eqb (refusal_of r (length room) (length area)) 0 ≡ true
+pub portion-accepted : (most : ℕ) (r : Record) (room area : List ℕ) → same_outcome (refusal_of r (length room) (length area)) accepted ≡ true
     → portion_call most r room area ≡ checked_portion (checked r.session most area) r room
 unfolding portion_call
 portion-accepted most r room area e = rw e
 
 -- outcome 18
 pub no-check : (s : Session) (most : ℕ) (area : List ℕ) → unlawful s ≡ false → length area ≡ s.opened → s.transfer.check.running ≡ false
-    → checked s most area ≡ refused_check 18 s
+    → checked s most area ≡ refused_check no_check_runs s
 unfolding checked
 no-check s most area ok size still = rw (ok, eq-eqb (length area) s.opened size, still)
 
@@ -254,10 +256,10 @@ module _ (s₀ : State) (fs : List Frame) (n : ℕ) where
   accepted-keeps (line_call k) room own p i a e = landed-call k room p i e (a.1 e).0 (a.1 e).1
   accepted-keeps (portion most) room own p i a e =
       subst Keeps (sym (ap (λ (x : PortionLeaves). after_portion x p) (portion-accepted most p.at room p.area e)))
-      (checked-keeps most room p i (accepted-of p.at (length room) (length p.area) (eqb-true _ _ e)).wide)
+      (checked-keeps most room p i (accepted-of p.at (length room) (length p.area) (same-true _ _ e)).wide)
   -- memory of another length is refused
   accepted-keeps kind room (other memory) p i a e =
-      absurd (a.0 ((accepted-of p.at (length room) (length memory) (eqb-true _ _ e)).size ∙ sym i.good.size))
+      absurd (a.0 ((accepted-of p.at (length room) (length memory) (same-true _ _ e)).size ∙ sym i.good.size))
 
   refused-keeps : (kind : CallKind) (room : List ℕ) (lends : Lent) (p : Place) → Keeps p
       → is_accepted (record { kind = kind; room = room; lends = lends }) p ≡ false

@@ -5,8 +5,6 @@ use mathlib.Core.Logic.{⊎_elim}
 use mathlib.Core.List.{List}
 use Prim.Native.Nat.{ℕ, ◌≤◌}
 use native.Mathlib.Omega.{arith}
-use borrow.Author.Tests.{eqb-true}
-use lib.Dec.{eqb}
 use lib.ListN.{length, length-take, length-replicate}
 use Rattle.frames.specs.declared.reader.Fed.{Fed}
 use Rattle.fronts.specs.Frame.{max_frame}
@@ -26,6 +24,7 @@ use Rattle.session.specs.Checking.{checked}
 use Rattle.session.proofs.Kept.{answer_keeps}
 use Rattle.session.proofs.Checks.{unended, finished-by}
 use Rattle.controller.specs.declared.record.Record.{Record}
+use Rattle.commands.specs.Outcomes.{same_outcome}
 use Rattle.controller.specs.Records.{unlawful_record, opened_record}
 use Rattle.controller.specs.Calls.{refusal_of, CallLeaves, finished_call, called_by}
 use Rattle.controller.specs.Portions.{PortionLeaves, checked_portion, portion_call}
@@ -34,6 +33,7 @@ use Rattle.controller.proofs.Refusals.{lawful_record, record_accepted, accepted-
 use Rattle.controller.proofs.Openings.{opens}
 use Rattle.controller.proofs.Steps.{calling_refused, calling_accepted}
 use Rattle.controller.proofs.Keeping.{portion-refused, portion-accepted, no-check}
+use Rattle.commands.proofs.Outcomes.{same-true}
 
 finished-keeps : (c : Call) (rest : List ℕ) (r : Record) (room area : List ℕ) → unlawful_record r ≡ false
     → unlawful_record (finished_call (handed_back (called c (held_bytes r.reader) rest)) r.session room area).called.next ≡ false
@@ -56,12 +56,12 @@ finished-keeps c rest r room area ok = go x.found refl
 
 by-reading : (c : Call) (rest : List ℕ) (r : Record) (room area : List ℕ) → unlawful_record r ≡ false
     → unlawful_record (called_by (fed_by c rest) r room area).called.next ≡ false
-by-reading c rest r room area ok = go (eqb (refusal_of r (length room) (length area)) 0) refl
+by-reading c rest r room area ok = go (same_outcome (refusal_of r (length room) (length area)) accepted) refl
   where
     Good : CallLeaves → Type 0
     Good x = unlawful_record x.called.next ≡ false
 
-    go : (b : Bool) → eqb (refusal_of r (length room) (length area)) 0 ≡ b
+    go : (b : Bool) → same_outcome (refusal_of r (length room) (length area)) accepted ≡ b
         → unlawful_record (called_by (fed_by c rest) r room area).called.next ≡ false
     go false e = subst Good (sym (calling_refused (fed_by c rest) r room area e)) ok
     go true e =
@@ -80,9 +80,9 @@ module _ (most : ℕ) (r : Record) (room area : List ℕ) (ok : unlawful_record 
   lawful-session : unlawful s ≡ false
   lawful-session = (lawful_record r ok).session
 
-  module _ (e : eqb (refusal_of r (length room) (length area)) 0 ≡ true) where
+  module _ (e : same_outcome (refusal_of r (length room) (length area)) accepted ≡ true) where
     size : length area ≡ s.opened
-    size = (accepted-of r (length room) (length area) (eqb-true _ _ e)).size
+    size = (accepted-of r (length room) (length area) (same-true _ _ e)).size
 
     by : (c : Checked) → checked s most area ≡ c → unlawful c.session ≡ false → Good (portion_call most r room area)
     by c is good =
@@ -98,9 +98,9 @@ module _ (most : ℕ) (r : Record) (room area : List ℕ) (ok : unlawful_record 
         (lt_or_le most (unread s.transfer))
 
   by-portion : Good (portion_call most r room area)
-  by-portion = go (eqb (refusal_of r (length room) (length area)) 0) refl
+  by-portion = go (same_outcome (refusal_of r (length room) (length area)) accepted) refl
     where
-      go : (b : Bool) → eqb (refusal_of r (length room) (length area)) 0 ≡ b → Good (portion_call most r room area)
+      go : (b : Bool) → same_outcome (refusal_of r (length room) (length area)) accepted ≡ b → Good (portion_call most r room area)
       go false e = subst Good (sym (portion-refused most r room area e)) ok
       go true e = checked-keeps e s.transfer.check.running refl
 

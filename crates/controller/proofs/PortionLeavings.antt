@@ -5,8 +5,8 @@ use mathlib.Core.Logic.{⊎_elim}
 use mathlib.Core.List.{List, [], ◌∷◌, ◌++◌}
 use Prim.Native.Nat.{ℕ, ◌+◌, ◌≤◌, ◌<◌}
 use native.Mathlib.Omega.{arith}
-use borrow.Author.Tests.{eqb-true, eqb-false, ltb-true}
-use lib.Dec.{ltb, eqb}
+use borrow.Author.Tests.{ltb-true}
+use lib.Dec.{ltb}
 use lib.ListN.{length, drop}
 use lib.Seq.{length-slice}
 use Rattle.sequences.proofs.Orders.{lt_or_le}
@@ -21,13 +21,18 @@ use Rattle.session.specs.Lawful.{unlawful}
 use Rattle.session.specs.Checking.{checked}
 use Rattle.session.proofs.Lawfuls.{lawful as lawful-session}
 use Rattle.session.proofs.Checks.{is-portion, unended, finished-by}
+use Rattle.commands.specs.declared.outcome.Outcome.{Outcome}
+use Rattle.commands.specs.Outcomes.{accepted, short_room, other_area, rules_broken, no_check_runs, unfinished}
 use Rattle.controller.specs.declared.record.Record.{Record}
+use Rattle.commands.specs.Outcomes.{same_outcome}
 use Rattle.controller.specs.Calls.{refusal_of, reply_size_of}
 use Rattle.controller.specs.Portions.{refused_portion, checked_portion, portion_call}
 use Rattle.controller.specs.Leaving.{IsRefusal, IsPortionRefusal, Counted, PortionOutcomes, PortionLeaving, Refuses}
 use Rattle.controller.proofs.Refusals.{lawful_record, Accepted, accepted-of, accepts, refusal_is, code-refuses, none-refuses}
 use Rattle.controller.proofs.Settling.{verdict-answers, ended-reply, verdict-reply, verdict-room}
 use Rattle.controller.proofs.Keeping.{portion-refused, portion-accepted, no-check}
+use Rattle.commands.proofs.Outcomes.{same-true, same-false}
+use Rattle.commands.proofs.Outcomes.{same-false}
 
 true_false : {A : Type 0} → true ≡ false → A
 true_false e = let z : ◌≡◌ {A = ℕ} 0 1 = cc in absurd (omega arith)
@@ -40,17 +45,18 @@ unfolding ended_fe
 ended-none t true = refl
 ended-none t false = refl
 
-no-refusal : (n : ℕ) → (n ≡ 5 → ⊥) → (n ≡ 6 → ⊥) → (n ≡ 9 → ⊥) → (n ≡ 18 → ⊥) → IsPortionRefusal n → ⊥
+no-refusal : (n : Outcome) → (n ≡ short_room → ⊥) → (n ≡ other_area → ⊥) → (n ≡ rules_broken → ⊥) → (n ≡ no_check_runs → ⊥)
+    → IsPortionRefusal n → ⊥
 no-refusal n a b c d e = ⊎_elim (λ w. ⊎_elim a (λ v. ⊎_elim b c v) w) d e
 
 module _ (most : ℕ) (r : Record) (room area : List ℕ) where
-  abbrev code : ℕ
+  abbrev code : Outcome
   code = refusal_of r (length room) (length area)
 
   -- 9, 6, 5
-  refused-leaves : eqb code 0 ≡ false → PortionOutcomes most r room area (record { called = refused_portion code r; room = room })
+  refused-leaves : same_outcome code accepted ≡ false → PortionOutcomes most r room area (record { called = refused_portion code r; room = room })
   refused-leaves e =
-      let nonzero = eqb-false code 0 e in
+      let nonzero = same-false code accepted e in
       record {
         refuses = code-refuses r room area;
         eighteen = λ ok size wide. absurd
@@ -64,24 +70,26 @@ module _ (most : ℕ) (r : Record) (room area : List ℕ) where
         same_reader = refl;
       }
     where
-      known : IsRefusal code → code ≡ 19 → ⊥
-      known w z = ⊎_elim (λ a. omega arith) (λ v. ⊎_elim (λ b. omega arith) (λ c. omega arith) v) w
+      known : IsRefusal code → code ≡ unfinished → ⊥
+      known w z =
+          ⊎_elim (λ a. same-false short_room unfinished refl (sym a ∙ z))
+          (λ v. ⊎_elim (λ b. same-false other_area unfinished refl (sym b ∙ z)) (λ c. same-false rules_broken unfinished refl (sym c ∙ z)) v) w
 
   -- not refused, by the session's part
   module _ (a : Accepted r (length room) (length area)) where
-    other : (n : ℕ) → (n ≡ 5 → ⊥) → (n ≡ 6 → ⊥) → (n ≡ 9 → ⊥) → Refuses r room area n
+    other : (n : Outcome) → (n ≡ short_room → ⊥) → (n ≡ other_area → ⊥) → (n ≡ rules_broken → ⊥) → Refuses r room area n
     other n five six nine = none-refuses r room area n a (five, (six, nine))
 
     still-leaves : r.session.transfer.check.running ≡ false
-        → PortionOutcomes most r room area (record { called = refused_portion 18 r; room = room })
+        → PortionOutcomes most r room area (record { called = refused_portion no_check_runs r; room = room })
     still-leaves still =
         record {
-          refuses = other 18 (λ z. omega arith) (λ z. omega arith) (λ z. omega arith);
+          refuses = other no_check_runs (same-false _ _ refl) (same-false _ _ refl) (same-false _ _ refl);
           eighteen = λ _ _ _. (λ _. still, λ _. refl);
           refused = λ _. refl;
-          unfinished = λ z. absurd (omega arith);
-          finished = λ z. absurd (omega arith);
-          past_reply = λ z. absurd (omega arith);
+          unfinished = λ z. absurd (same-false _ _ refl z);
+          finished = λ z. absurd (same-false _ _ refl z);
+          past_reply = λ z. absurd (same-false _ _ refl z);
           counted = λ _ runs. true_false (sym runs ∙ still);
           same-list = refl;
           same_reader = refl;
@@ -93,11 +101,11 @@ module _ (most : ℕ) (r : Record) (room area : List ℕ) where
     lawful : unlawful s ≡ false
     lawful = (lawful_record r a.lawful).session
 
-    accepted-is : eqb code 0 ≡ true → (c : Checked) → checked s most area ≡ c → portion_call most r room area ≡ checked_portion c r room
+    accepted-is : same_outcome code accepted ≡ true → (c : Checked) → checked s most area ≡ c → portion_call most r room area ≡ checked_portion c r room
     accepted-is e c is = portion-accepted most r room area e ∙ ap (λ (x : Checked). checked_portion x r room) is
 
     -- the count is the definition's
-    counts : eqb code 0 ≡ true → s.transfer.check.running ≡ true → Counted most s.transfer area (portion_call most r room area)
+    counts : same_outcome code accepted ≡ true → s.transfer.check.running ≡ true → Counted most s.transfer area (portion_call most r room area)
     unfolding check_step portion_of
     counts e runs =
         let t = s.transfer in
@@ -109,7 +117,7 @@ module _ (most : ℕ) (r : Record) (room area : List ℕ) where
         subst (Counted most t area) (sym (accepted-is e _ (is-portion s most area lawful a.size runs)))
         (record { amount = refl; bytes = omega (arith, bytes); says = refl; becomes = refl; number = refl })
 
-    running-leaves : eqb code 0 ≡ true → s.transfer.check.running ≡ true
+    running-leaves : same_outcome code accepted ≡ true → s.transfer.check.running ≡ true
         → PortionOutcomes most r room area (portion_call most r room area)
     running-leaves e runs = ⊎_elim goes ends (lt_or_le most (unread s.transfer))
       where
@@ -117,12 +125,13 @@ module _ (most : ℕ) (r : Record) (room area : List ℕ) where
         goes h =
             subst (PortionOutcomes most r room area) (sym (accepted-is e _ (unended s most area lawful a.size runs h).is))
             (record {
-              refuses = other 19 (λ z. omega arith) (λ z. omega arith) (λ z. omega arith);
-              eighteen = λ _ _ _. (λ z. absurd (omega arith), λ z. true_false (sym runs ∙ z));
-              refused = λ w. absurd (no-refusal 19 (λ z. omega arith) (λ z. omega arith) (λ z. omega arith) (λ z. omega arith) w);
+              refuses = other unfinished (same-false _ _ refl) (same-false _ _ refl) (same-false _ _ refl);
+              eighteen = λ _ _ _. (λ z. absurd (same-false _ _ refl z), λ z. true_false (sym runs ∙ z));
+              refused = λ w. absurd
+                  (no-refusal unfinished (same-false _ _ refl) (same-false _ _ refl) (same-false _ _ refl) (same-false _ _ refl) w);
               unfinished = λ _. (refl, (refl, refl));
-              finished = λ z. absurd (omega arith);
-              past_reply = λ z. absurd (omega arith);
+              finished = λ z. absurd (same-false _ _ refl z);
+              past_reply = λ z. absurd (same-false _ _ refl z);
               counted = λ _ _. subst (Counted most s.transfer area)
                   (accepted-is e _ (unended s most area lawful a.size runs h).is) (counts e runs);
               same-list = refl;
@@ -135,13 +144,13 @@ module _ (most : ℕ) (r : Record) (room area : List ℕ) where
             let zero = verdict-answers (will_say s.transfer area) in
             subst (PortionOutcomes most r room area) (sym (accepted-is e _ (finished-by s most area lawful a.size runs h).is))
             (record {
-              refuses = other _ (λ z. let y = sym zero ∙ z in omega arith) (λ z. let y = sym zero ∙ z in omega arith)
-                  (λ z. let y = sym zero ∙ z in omega arith);
-              eighteen = λ _ _ _. (λ z. absurd (let y = sym zero ∙ z in omega arith), λ z. true_false (sym runs ∙ z));
+              refuses = other _ (λ z. same-false accepted _ refl (sym zero ∙ z)) (λ z. same-false accepted _ refl (sym zero ∙ z))
+                  (λ z. same-false accepted _ refl (sym zero ∙ z));
+              eighteen = λ _ _ _. (λ z. absurd (same-false accepted _ refl (sym zero ∙ z)), λ z. true_false (sym runs ∙ z));
               refused = λ w. absurd
-                  (no-refusal _ (λ z. let y = sym zero ∙ z in omega arith) (λ z. let y = sym zero ∙ z in omega arith)
-                  (λ z. let y = sym zero ∙ z in omega arith) (λ z. let y = sym zero ∙ z in omega arith) w);
-              unfinished = λ z. absurd (let y = sym zero ∙ z in omega arith);
+                  (no-refusal _ (λ z. same-false accepted _ refl (sym zero ∙ z)) (λ z. same-false accepted _ refl (sym zero ∙ z))
+                  (λ z. same-false accepted _ refl (sym zero ∙ z)) (λ z. same-false accepted _ refl (sym zero ∙ z)) w);
+              unfinished = λ z. absurd (same-false accepted _ refl (sym zero ∙ z));
               finished = λ _. (
                 ended-none s.transfer (will_say s.transfer area),
                 verdict-reply s.transfer (will_say s.transfer area) room a.wide
@@ -159,7 +168,7 @@ module _ (most : ℕ) (r : Record) (room area : List ℕ) where
               same_reader = refl;
             })
 
-    accepted-leaves : eqb code 0 ≡ true → PortionOutcomes most r room area (portion_call most r room area)
+    accepted-leaves : same_outcome code accepted ≡ true → PortionOutcomes most r room area (portion_call most r room area)
     accepted-leaves e = go s.transfer.check.running refl
       where
         go : (b : Bool) → s.transfer.check.running ≡ b → PortionOutcomes most r room area (portion_call most r room area)
@@ -169,8 +178,8 @@ module _ (most : ℕ) (r : Record) (room area : List ℕ) where
             (still-leaves still)
 
 pub portion-leaving : PortionLeaving
-portion-leaving most r room area = go (eqb (refusal_of r (length room) (length area)) 0) refl
+portion-leaving most r room area = go (same_outcome (refusal_of r (length room) (length area)) accepted) refl
   where
-    go : (b : Bool) → eqb (refusal_of r (length room) (length area)) 0 ≡ b → PortionOutcomes most r room area (portion_call most r room area)
+    go : (b : Bool) → same_outcome (refusal_of r (length room) (length area)) accepted ≡ b → PortionOutcomes most r room area (portion_call most r room area)
     go false e = subst (PortionOutcomes most r room area) (sym (portion-refused most r room area e)) (refused-leaves most r room area e)
-    go true e = accepted-leaves most r room area (accepted-of r (length room) (length area) (eqb-true _ _ e)) e
+    go true e = accepted-leaves most r room area (accepted-of r (length room) (length area) (same-true _ _ e)) e

@@ -4,15 +4,17 @@ use mathlib.Core.Bool.{Bool, true, false, not, ◌||◌}
 use mathlib.Core.List.{List, [], ◌∷◌}
 use Prim.Native.Nat.{ℕ}
 use native.Mathlib.Omega.{arith}
-use borrow.Author.Tests.{eqb-true, eqb-false, eq-eqb, ne_eqb, ltb-true, ltb-false}
+use borrow.Author.Tests.{eqb-true, eqb-false, ltb-true, ltb-false}
 use lib.Dec.{eqb, ltb}
 use lib.ListN.{length}
 use Rattle.fronts.specs.Frame.{Frame}
 use Rattle.frames.specs.PlainRun.{plain}
-use Rattle.commands.specs.Outcomes.{short_room, other_area, rules_broken}
+use Rattle.commands.specs.declared.outcome.Outcome.{Outcome}
+use Rattle.commands.specs.Outcomes.{accepted, short_room, other_area, rules_broken}
 use Rattle.session.proofs.Checks.{finished-by}
 use Rattle.ending.specs.Portions.{unread, will_say}
 use Rattle.controller.specs.declared.record.Record.{Record}
+use Rattle.commands.specs.Outcomes.{same_outcome}
 use Rattle.controller.specs.Records.{unlawful_record}
 use Rattle.controller.specs.Calls.{min_room, refusal_of, CallLeaves}
 use Rattle.controller.specs.Portions.{CallKind, line_call, portion}
@@ -25,6 +27,7 @@ use Rattle.controller.proofs.Settling.{Good, settled_state, ended-still, settled
 use Rattle.controller.proofs.Keeping.{given-good, running_settled, still_settled}
 use Rattle.controller.proofs.Leavings.{leaving}
 use Rattle.controller.proofs.PortionLeavings.{portion-leaving}
+use Rattle.commands.proofs.Outcomes.{same-true, is-same, not-same}
 
 -- ---- a refused call
 
@@ -35,30 +38,32 @@ or_true : (a : Bool) → (a || true) ≡ true
 or_true true = refl
 or_true false = refl
 
-module _ (r : Record) (room area : List ℕ) (n : ℕ) (x : Refuses r room area n) where
-  accepted : (a : Bool) → eqb (refusal_of r (length room) (length area)) 0 ≡ a → a ≡ not (is_refusal n)
-  accepted true e =
-      let a = accepted-of r (length room) (length area) (eqb-true _ _ e) in
-      let not-nine = ne_eqb n rules_broken (λ z. true_false (sym (x.nine.0 z) ∙ a.lawful)) in
-      let not-six = ne_eqb n other_area (λ z. (x.six a.lawful).0 z a.size) in
-      let not_five = ne_eqb n short_room (λ z. let short = (x.five a.lawful a.size).0 z in omega (arith, a.wide)) in
+module _ (r : Record) (room area : List ℕ) (n : Outcome) (x : Refuses r room area n) where
+  told : (a : Bool) → same_outcome (refusal_of r (length room) (length area)) accepted ≡ a → a ≡ not (is_refusal n)
+  told true e =
+      let a = accepted-of r (length room) (length area) (same-true _ _ e) in
+      let not-nine = not-same n rules_broken (λ z. true_false (sym (x.nine.0 z) ∙ a.lawful)) in
+      let not-six = not-same n other_area (λ z. (x.six a.lawful).0 z a.size) in
+      let not_five = not-same n short_room (λ z. let short = (x.five a.lawful a.size).0 z in omega (arith, a.wide)) in
       sym (ap not (ap₂ ◌||◌ not-nine (ap₂ ◌||◌ not-six not_five)))
-  accepted false e = go (unlawful_record r) (eqb (length area) r.session.opened) (ltb (length room) min_room) refl refl refl
+  told false e = go (unlawful_record r) (eqb (length area) r.session.opened) (ltb (length room) min_room) refl refl refl
     where
       go : (a b c : Bool) → unlawful_record r ≡ a → eqb (length area) r.session.opened ≡ b → ltb (length room) min_room ≡ c
           → false ≡ not (is_refusal n)
       go true b c ea eb ec =
-          sym (ap (λ (y : Bool). not (y || (eqb n other_area || eqb n short_room))) (eq-eqb n rules_broken (x.nine.1 ea)))
+          sym (ap (λ (y : Bool). not (y || (same_outcome n other_area || same_outcome n short_room))) (is-same n rules_broken (x.nine.1 ea)))
       go false false c ea eb ec =
-          let six = eq-eqb n other_area ((x.six ea).1 (eqb-false _ _ eb)) in
-          sym (ap (λ (y : Bool). not (eqb n rules_broken || (y || eqb n short_room))) six ∙ ap not (or_true (eqb n rules_broken)))
+          let six = is-same n other_area ((x.six ea).1 (eqb-false _ _ eb)) in
+          sym (ap (λ (y : Bool). not (same_outcome n rules_broken || (y || same_outcome n short_room))) six
+          ∙ ap not (or_true (same_outcome n rules_broken)))
       go false true true ea eb ec =
-          let five = eq-eqb n short_room ((x.five ea (eqb-true _ _ eb)).1 (ltb-true _ _ ec)) in
-          sym (ap (λ (y : Bool). not (eqb n rules_broken || (eqb n other_area || y))) five
-          ∙ ap (λ (y : Bool). not (eqb n rules_broken || y)) (or_true (eqb n other_area)) ∙ ap not (or_true (eqb n rules_broken)))
+          let five = is-same n short_room ((x.five ea (eqb-true _ _ eb)).1 (ltb-true _ _ ec)) in
+          sym (ap (λ (y : Bool). not (same_outcome n rules_broken || (same_outcome n other_area || y))) five
+          ∙ ap (λ (y : Bool). not (same_outcome n rules_broken || y)) (or_true (same_outcome n other_area))
+          ∙ ap not (or_true (same_outcome n rules_broken)))
       go false true false ea eb ec =
           let ok = accepts r (length room) (length area) (record { lawful = ea; size = eqb-true _ _ eb; wide = ltb-false _ _ ec }) in
-          true_false (sym (eq-eqb _ 0 ok) ∙ e)
+          true_false (sym (is-same _ accepted ok) ∙ e)
 
 pub refused-means : RefusedMeans
 refused-means c p = go c.kind refl
@@ -70,9 +75,9 @@ refused-means c p = go c.kind refl
     go (line_call k) e =
         let x = subst (λ (y : CallLeaves). Refuses p.at c.room memory y.called.outcome) (sym (leaves_by k c p))
         (leaving k p.untaken p.at c.room memory).refuses in
-        accepted p.at c.room memory _ x (is_accepted c p) refl
+        told p.at c.room memory _ x (is_accepted c p) refl
     go (portion most) e =
-        accepted p.at c.room memory _ (portion-leaving most p.at c.room memory).refuses (is_accepted c p) refl
+        told p.at c.room memory _ (portion-leaving most p.at c.room memory).refuses (is_accepted c p) refl
 
 -- ---- the plain run
 

@@ -4,7 +4,6 @@ use mathlib.Core.Bool.{Bool, true, false, not}
 use mathlib.Core.List.{List}
 use Prim.Native.Nat.{ℕ, ◌≤◌}
 use native.Mathlib.Omega.{arith}
-use borrow.Author.Tests.{eqb-true, eq-eqb}
 use lib.Dec.{ltb, eqb}
 use lib.ListN.{length, length-take}
 use Rattle.frames.specs.declared.reader.Fed.{Fed}
@@ -16,26 +15,30 @@ use Rattle.sequences.proofs.Conditionals.{of-both}
 use Rattle.session.specs.declared.session.Session.{Session}
 use Rattle.transfer.specs.Transfers.{Effect}
 use Rattle.session.specs.declared.answer.Answer.{Answer}
-use Rattle.commands.specs.Outcomes.{accepted}
+use Rattle.commands.specs.declared.outcome.Outcome.{Outcome}
+use Rattle.commands.specs.Outcomes.{accepted, check_runs}
 use Rattle.session.specs.Lawful.{unlawful}
 use Rattle.session.specs.Answering.{answered}
 use Rattle.session.proofs.Checks.{running-same, running-answers, still-answers}
 use Rattle.controller.specs.declared.record.Record.{Record}
 use Rattle.controller.specs.declared.call.Called.{Called}
+use Rattle.commands.specs.Outcomes.{same_outcome}
 use Rattle.controller.specs.Records.{unlawful_record, is_checking}
 use Rattle.controller.specs.Calls.{min_room, refusal_of, CallLeaves, reply_size_of, reply_room_of, answered_call, finished_call, called_by}
 use Rattle.controller.specs.CheckCourse.{Later, lends_enough, LeavesCheck, WhileChecking, FrameMeetsCheck, OnlyWhileChecking}
 use Rattle.controller.proofs.Refusals.{lawful_record, record_accepted, accepted-of}
 use Rattle.controller.proofs.Steps.{calling_refused, calling_accepted}
+use Rattle.commands.proofs.Outcomes.{same-true, is-same}
+use Rattle.commands.proofs.Outcomes.{same-false}
 
 -- a lawful record refuses a call exactly where it does not lend enough
 pub enough : (r : Record) (c : Later) → unlawful_record r ≡ false
-    → eqb (refusal_of r (length c.room) (length c.memory)) 0 ≡ lends_enough r.session.opened c
+    → same_outcome (refusal_of r (length c.room) (length c.memory)) accepted ≡ lends_enough r.session.opened c
 unfolding refusal_of
 enough r c ok = go (eqb (length c.memory) r.session.opened) (ltb (length c.room) min_room) refl refl
   where
     go : (a b : Bool) → eqb (length c.memory) r.session.opened ≡ a → ltb (length c.room) min_room ≡ b
-        → eqb (refusal_of r (length c.room) (length c.memory)) 0 ≡ lends_enough r.session.opened c
+        → same_outcome (refusal_of r (length c.room) (length c.memory)) accepted ≡ lends_enough r.session.opened c
     go true true ea eb = simp (ok, ea, eb)
     go true false ea eb = simp (ok, ea, eb)
     go false b ea eb = simp (ok, ea)
@@ -95,7 +98,7 @@ module _ (call : Call) (untaken : List ℕ) (r : Record) (room memory : List ℕ
   y = called_by (fed_by call untaken) r room memory
 
   abbrev code : Bool
-  code = eqb (refusal_of r (length room) (length memory)) 0
+  code = same_outcome (refusal_of r (length room) (length memory)) accepted
 
   refused-leaves : code ≡ false → LeavesCheck r room memory y
   refused-leaves e =
@@ -104,7 +107,7 @@ module _ (call : Call) (untaken : List ℕ) (r : Record) (room memory : List ℕ
 
   accepted-leaves : code ≡ true → is_checking r ≡ true → LeavesLawful r room memory y
   accepted-leaves e runs =
-      let ok = (accepted-of r (length room) (length memory) (eqb-true _ _ e)).lawful in
+      let ok = (accepted-of r (length room) (length memory) (same-true _ _ e)).lawful in
       subst (LeavesLawful r room memory)
       (sym (calling_accepted (fed_by call untaken) r room memory e
       ∙ ap (λ (f : Fed). finished_call f r.session room memory) (call-accepted call untaken r.reader (lawful_record r ok).count)))
@@ -124,9 +127,9 @@ module _ (call : Call) (untaken : List ℕ) (r : Record) (room memory : List ℕ
       go true e = accepted-leaves e runs
 
 pub while_checking : WhileChecking
-while_checking call untaken r room memory runs = go (eqb (refusal_of r (length room) (length memory)) 0) refl
+while_checking call untaken r room memory runs = go (same_outcome (refusal_of r (length room) (length memory)) accepted) refl
   where
-    go : (b : Bool) → eqb (refusal_of r (length room) (length memory)) 0 ≡ b
+    go : (b : Bool) → same_outcome (refusal_of r (length room) (length memory)) accepted ≡ b
         → LeavesCheck r room memory (called_by (fed_by call untaken) r room memory)
     go false e = refused-leaves call untaken r room memory e
     go true e = (accepted-leaves call untaken r room memory e runs).leaves
@@ -140,7 +143,7 @@ found-answers : (call : Call) (untaken : List ℕ) (r : Record) (room area : Lis
     (answered r.session f.frame area) room
 unfolding finished_call
 found-answers call untaken r room area ok found =
-    ap (λ (y : CallLeaves). y.called) (calling_accepted (fed_by call untaken) r room area (eq-eqb _ _ ok)) ∙ rw found
+    ap (λ (y : CallLeaves). y.called) (calling_accepted (fed_by call untaken) r room area (is-same _ _ ok)) ∙ rw found
 
 pub frame-meets-check : FrameMeetsCheck
 frame-meets-check call untaken r room area ok runs found =
@@ -151,37 +154,37 @@ frame-meets-check call untaken r room area ok runs found =
     (running-answers r.session f.frame area (lawful_record r a.lawful).session a.size runs)
 
 -- a refusal is 9, 6 or 5
-not_twelve : (r : Record) (room area : ℕ) → refusal_of r room area ≡ 12 → ⊥
+not_twelve : (r : Record) (room area : ℕ) → refusal_of r room area ≡ check_runs → ⊥
 unfolding refusal_of
 not_twelve r room area =
-    let P : ℕ → Type 0 = λ n. n ≡ 12 → ⊥ in
-    of-both P (unlawful_record r) _ _ (λ z. omega arith)
-    (of-both P (not (eqb area r.session.opened)) _ _ (λ z. omega arith)
-    (of-both P (ltb room min_room) _ _ (λ z. omega arith) (λ z. omega arith)))
+    let P : Outcome → Type 0 = λ n. n ≡ check_runs → ⊥ in
+    of-both P (unlawful_record r) _ _ (same-false _ _ refl)
+    (of-both P (not (eqb area r.session.opened)) _ _ (same-false _ _ refl)
+    (of-both P (ltb room min_room) _ _ (same-false _ _ refl) (same-false _ _ refl)))
 
 pub only_while_checking : OnlyWhileChecking
 unfolding finished_call
-only_while_checking call untaken r room area twelve = by_code (eqb code 0) refl
+only_while_checking call untaken r room area twelve = by_code (same_outcome code accepted) refl
   where
     f : Fed
     f = fed_by call untaken r.reader
 
-    code : ℕ
+    code : Outcome
     code = refusal_of r (length room) (length area)
 
-    outcome : (w : CallLeaves) → called_by (fed_by call untaken) r room area ≡ w → w.called.outcome ≡ 12
+    outcome : (w : CallLeaves) → called_by (fed_by call untaken) r room area ≡ w → w.called.outcome ≡ check_runs
     outcome w e = ap (λ (x : CallLeaves). x.called.outcome) (sym e) ∙ twelve
 
-    runs : (b : Bool) → is_checking r ≡ b → f.found ≡ true → (finished_call f r.session room area).called.outcome ≡ 12
+    runs : (b : Bool) → is_checking r ≡ b → f.found ≡ true → (finished_call f r.session room area).called.outcome ≡ check_runs
         → is_checking r ≡ true
     runs true e found = λ _. e
     runs false e found = rw found (λ z. absurd (still-answers r.session f.frame area e z))
 
-    by-found : (b : Bool) → f.found ≡ b → (finished_call f r.session room area).called.outcome ≡ 12
+    by-found : (b : Bool) → f.found ≡ b → (finished_call f r.session room area).called.outcome ≡ check_runs
         → (f.found ≡ true) × (is_checking r ≡ true)
     by-found true e = λ z. (e, runs (is_checking r) refl e z)
-    by-found false e = rw e (λ z. absurd (omega arith))
+    by-found false e = rw e (λ z. absurd (same-false _ _ refl z))
 
-    by_code : (b : Bool) → eqb code 0 ≡ b → (code ≡ accepted) × ((f.found ≡ true) × (is_checking r ≡ true))
+    by_code : (b : Bool) → same_outcome code accepted ≡ b → (code ≡ accepted) × ((f.found ≡ true) × (is_checking r ≡ true))
     by_code false e = absurd (not_twelve r (length room) (length area) (outcome _ (calling_refused (fed_by call untaken) r room area e)))
-    by_code true e = (eqb-true _ _ e, by-found f.found refl (outcome _ (calling_accepted (fed_by call untaken) r room area e)))
+    by_code true e = (same-true _ _ e, by-found f.found refl (outcome _ (calling_accepted (fed_by call untaken) r room area e)))

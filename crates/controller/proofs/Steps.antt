@@ -4,8 +4,7 @@ use mathlib.Core.Bool.{Bool, true, false, cond, ◌&&◌, ◌||◌}
 use mathlib.Core.List.{List, [], ◌∷◌, ◌++◌, append-nil}
 use Prim.Native.Nat.{ℕ, ◌+◌, ◌≤◌}
 use native.Mathlib.Omega.{arith}
-use borrow.Author.Tests.{eqb-true, ne_eqb}
-use lib.Dec.{eqb}
+use borrow.Author.Tests.{ne_eqb}
 use lib.ListN.{length, drop}
 use Rattle.frames.specs.declared.reader.Reader.{Reader}
 use Rattle.frames.specs.declared.reader.Fed.{Fed}
@@ -20,13 +19,17 @@ use Rattle.replies.proofs.Replies.{reply-some, reply-front}
 use Rattle.session.specs.declared.answer.Answer.{Answer}
 use Rattle.session.specs.Answering.{answered, area_after}
 use Rattle.session.proofs.TableFrames.{replied-command}
+use Rattle.commands.specs.declared.outcome.Outcome.{Outcome}
+use Rattle.commands.specs.Outcomes.{accepted}
 use Rattle.controller.specs.declared.record.Record.{Record}
+use Rattle.commands.specs.Outcomes.{same_outcome}
 use Rattle.controller.specs.Calls.{min_room, refusal_of, CallLeaves, refused_call, reply_size_of, reply_room_of, reply_in}
 use Rattle.controller.specs.Calls.{finished_call, called_by}
 use Rattle.controller.specs.Portions.{line_call}
 use Rattle.controller.specs.Demand3.{State, Lent, own, other, Listed, Place, lent, is_accepted, is_quiet, after, next}
 use Rattle.controller.specs.Demand3.{leaves_of}
 use Rattle.controller.proofs.Refusals.{lawful_record, accepted-of}
+use Rattle.commands.proofs.Outcomes.{same-true}
 
 abbrev pub state_of : Place → State
 state_of p = record { session = p.at.session; area = p.area }
@@ -110,7 +113,7 @@ unmoved quieted p e =
       quieted = y;
     }) d e
 
-refused-place : (k : ℕ) (room : List ℕ) (lends : Lent) (quieted : Bool) (p : Place) → quieted ≡ p.quieted
+refused-place : (k : Outcome) (room : List ℕ) (lends : Lent) (quieted : Bool) (p : Place) → quieted ≡ p.quieted
     → after (record { called = refused_call k p.at; room = room; area = lent lends p.area }) lends quieted p ≡ p
 refused-place k room own quieted p e = unmoved quieted p e
 refused-place k room (other memory) quieted p e = unmoved quieted p e
@@ -120,12 +123,12 @@ or_not true b = refl
 or_not false true = refl
 or_not false false = refl
 
-pub calling_refused : (reads : Reader → Fed) (r : Record) (room area : List ℕ) → eqb (refusal_of r (length room) (length area)) 0 ≡ false
+pub calling_refused : (reads : Reader → Fed) (r : Record) (room area : List ℕ) → same_outcome (refusal_of r (length room) (length area)) accepted ≡ false
     → called_by reads r room area ≡ record { called = refused_call (refusal_of r (length room) (length area)) r; room = room; area = area }
 unfolding called_by
 calling_refused reads r room area e = rw e
 
-pub calling_accepted : (reads : Reader → Fed) (r : Record) (room area : List ℕ) → eqb (refusal_of r (length room) (length area)) 0 ≡ true
+pub calling_accepted : (reads : Reader → Fed) (r : Record) (room area : List ℕ) → same_outcome (refusal_of r (length room) (length area)) accepted ≡ true
     → called_by reads r room area ≡ finished_call (reads r.reader) r.session room area
 unfolding called_by
 calling_accepted reads r room area e = rw e
@@ -158,7 +161,7 @@ on_own c room = lending c room own
 pub next-landed : (k : Call) (room : List ℕ) (p : Place) → is_accepted (on_own k room) p ≡ true
     → next (on_own k room) p ≡ landed (called k (held_of p) p.untaken) (p.quieted || (is_quiet k && is_accepted (on_own k room) p)) p
 next-landed k room p e =
-    let a = accepted-of p.at (length room) (length p.area) (eqb-true _ _ e) in
+    let a = accepted-of p.at (length room) (length p.area) (same-true _ _ e) in
     let q = p.quieted || (is_quiet k && is_accepted (on_own k room) p) in
     ap (λ (x : CallLeaves). after x own q p)
     (leaves_by k (on_own k room) p ∙ calling_accepted (fed_by k p.untaken) p.at room p.area e)

@@ -6,6 +6,7 @@ use Rattle.boards.specs.declared.board.Board.{Board}
 use Rattle.image.specs.declared.check.Verdict.{Verdict}
 use Rattle.image.specs.declared.check.Verdict.TheVariants.{Unfinished, Right}
 use Rattle.boards.specs.Boards.{no_board}
+use Rattle.commands.specs.Outcomes.{outcome_number}
 use Rattle.controller.specs.declared.record.Record.{Record}
 use Rattle.controller.specs.Records.{holding_nothing, opened_record}
 use Rattle.controller.specs.Calls.{fed_call}
@@ -75,7 +76,7 @@ seen earlier (feeds bytes) r area =
     let x = fed_call bytes r lent_room area in
     record {
       earlier = earlier;
-      outcome = x.called.outcome;
+      outcome = outcome_number x.called.outcome;
       reply = take x.called.reply_length x.room;
       taken = x.called.taken;
       dropped = x.called.dropped;
@@ -92,7 +93,7 @@ seen earlier (checks most) r area =
     let x = portion_call most r lent_room area in
     record {
       earlier = earlier;
-      outcome = x.called.outcome;
+      outcome = outcome_number x.called.outcome;
       reply = take x.called.reply_length x.room;
       taken = 0;
       dropped = 0;
@@ -108,7 +109,7 @@ seen earlier (checks most) r area =
 seen earlier reports r area =
     record {
       earlier = earlier;
-      outcome = (reported r lent_room).outcome;
+      outcome = outcome_number (reported r lent_room).outcome;
       reply = take (reported r lent_room).length (room_reported r lent_room);
       taken = 0;
       dropped = 0;
@@ -126,7 +127,7 @@ abbrev pub seen_after : List (List ℕ) → Bool → Action → Record → List 
 seen_after [] earlier action r area = seen earlier action r area
 seen_after (bytes ∷ more) earlier action r area =
     let x = fed_call bytes r lent_room area in
-    seen_after more (earlier && eqb x.called.outcome 0) action x.called.next x.area
+    seen_after more (earlier && eqb (outcome_number x.called.outcome) 0) action x.called.next x.area
 
 abbrev pub got : List ℕ → Row → Seen
 got area benchRow = seen_after benchRow.before true benchRow.action fresh area

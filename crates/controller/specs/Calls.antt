@@ -6,10 +6,12 @@ use Rattle.frames.specs.LiveReading.{fed, quieted}
 use Rattle.replies.specs.Replies.{reply_size, reply_room}
 use Rattle.session.specs.declared.session.Session.{Session}
 use Rattle.session.specs.declared.answer.Answer.{Answer}
+use Rattle.commands.specs.declared.outcome.Outcome.{Outcome}
 use Rattle.commands.specs.Outcomes.{accepted, no_frame_yet, short_room, other_area, rules_broken}
 use Rattle.session.specs.Answering.{answered, area_after}
 use Rattle.controller.specs.declared.record.Record.{Record}
 use Rattle.controller.specs.declared.call.Called.{Called}
+use Rattle.commands.specs.Outcomes.{same_outcome}
 use Rattle.controller.specs.Records.{unlawful_record}
 
 -- "reply room below 33 bytes"
@@ -17,7 +19,7 @@ abbrev pub min_room : ℕ
 min_room = 33
 
 -- "Calls check 9, 6, 5"; 0 where the call is not refused
-unfoldable pub refusal_of : Record → ℕ → ℕ → ℕ
+unfoldable pub refusal_of : Record → ℕ → ℕ → Outcome
 refusal_of r room area =
     cond (unlawful_record r) rules_broken
     (cond (not (eqb area r.session.opened)) other_area
@@ -30,7 +32,7 @@ pub record CallLeaves : Type 0 where
   pub area : List ℕ
 
 -- "on outcomes 5, 6 and 9 all four are 0"; "no byte taken, all unchanged"
-abbrev pub refused_call : ℕ → Record → Called
+abbrev pub refused_call : Outcome → Record → Called
 refused_call outcome r = record { outcome = outcome; reply_length = 0; taken = 0; dropped = 0; command = 0; data_length = 0; next = r }
 
 -- "A call without a reply .. gives length 0"
@@ -85,7 +87,7 @@ finished_call f s room area =
 unfoldable pub called_by : (Reader → Fed) → Record → List ℕ → List ℕ → CallLeaves
 called_by reads r room area =
     let code = refusal_of r (length room) (length area) in
-    cond (eqb code accepted) (finished_call (reads r.reader) r.session room area)
+    cond (same_outcome code accepted) (finished_call (reads r.reader) r.session room area)
     (record { called = refused_call code r; room = room; area = area })
 
 -- feeding some bytes

@@ -9,6 +9,7 @@ use Rattle.image.specs.declared.check.Verdict.TheVariants.{Unfinished, Right, Wr
 use Rattle.ending.specs.Portions.{unread}
 use Rattle.session.specs.Transfers.{own_transfer}
 use Rattle.session.specs.declared.session.Session.{Session}
+use Rattle.commands.specs.declared.outcome.Outcome.{Outcome}
 use Rattle.commands.specs.Outcomes.{accepted, unlisted_command, wrong_header, unlisted_channel, check_runs}
 use Rattle.session.specs.Answering.{place_for, by_header, header_of_frame}
 use Rattle.controller.specs.declared.record.Record.{Record}
@@ -58,7 +59,7 @@ WhileChecking =
     → LeavesCheck r room memory (called_by (fed_by call untaken) r room memory)
 
 -- A frame that comes while a check runs: 2 and 3 by the table; "F9: noted"; "FA to FE get a new outcome 12 after 4".
-abbrev pub met_by : Session → FinishedFrame → ℕ
+abbrev pub met_by : Session → FinishedFrame → Outcome
 met_by s f =
     by_header (header_of_frame f) unlisted_command wrong_header
     (cond (eqb f.command 0xF9) accepted (cond (ltb (place_for s f) s.count) check_runs unlisted_channel))

@@ -2,7 +2,7 @@
 -- "Demand 3's list gains the portion calls, refused ones included, and its plain run checks in one go, then zeroes the check's own fields;
 -- its runs start with no check running, finish each before the next feeding or quiet call not refused, and have not ended while one runs".
 -- Assumes nothing.
-use Rattle.std.specs.Prelude.{◌≡◌, Bool, true, false, cond, not, ◌&&◌, ◌||◌, List, [], ◌∷◌, ◌++◌, ℕ, ◌+◌, eqb, length, take, drop}
+use Rattle.std.specs.Prelude.{◌≡◌, Bool, true, false, cond, not, ◌&&◌, ◌||◌, List, [], ◌∷◌, ◌++◌, ℕ, ◌+◌, length, take, drop}
 use Rattle.sequences.specs.Bytes.{Bytes}
 use Rattle.fronts.specs.Frame.{Frame, encode}
 use Rattle.frames.specs.Finished.{finished}
@@ -12,10 +12,12 @@ use Rattle.frames.specs.PlainRun.{Plain, plain, Begins}
 use Rattle.replies.specs.Replies.{reply_frame}
 use Rattle.session.specs.declared.session.Session.{Session}
 use Rattle.session.specs.declared.answer.Answer.{Answer}
+use Rattle.commands.specs.declared.outcome.Outcome.{Outcome}
 use Rattle.commands.specs.Outcomes.{accepted, short_room, other_area, rules_broken}
 use Rattle.session.specs.Answering.{judged}
 use Rattle.session.specs.OneGo.{in_one_go}
 use Rattle.controller.specs.declared.record.Record.{Record}
+use Rattle.commands.specs.Outcomes.{same_outcome}
 use Rattle.controller.specs.Records.{unlawful_record, is_checking, holding_nothing}
 use Rattle.controller.specs.Calls.{refusal_of, CallLeaves, fed_call, quieted_call, reply_in}
 use Rattle.controller.specs.Portions.{PortionLeaves, portion_call, CallKind, line_call, portion}
@@ -99,17 +101,17 @@ abbrev pub portion_leaves_of : ℕ → Listed → Place → PortionLeaves
 portion_leaves_of most c p = portion_call most p.at c.room (lent c.lends p.area)
 
 -- the outcome of the call
-abbrev pub outcome_in : CallKind → Listed → Place → ℕ
+abbrev pub outcome_in : CallKind → Listed → Place → Outcome
 outcome_in (line_call k) c p = (leaves_of k c p).called.outcome
 outcome_in (portion most) c p = (portion_leaves_of most c p).called.outcome
 
 -- 9, 6 and 5: the call is refused
-abbrev pub is_refusal : ℕ → Bool
-is_refusal n = eqb n rules_broken || (eqb n other_area || eqb n short_room)
+abbrev pub is_refusal : Outcome → Bool
+is_refusal n = same_outcome n rules_broken || (same_outcome n other_area || same_outcome n short_room)
 
 -- not refused, by what is lent; by its outcome it is the same (`RefusedMeans`)
 abbrev pub is_accepted : Listed → Place → Bool
-is_accepted c p = eqb (refusal_of p.at (length c.room) (length (lent c.lends p.area))) accepted
+is_accepted c p = same_outcome (refusal_of p.at (length c.room) (length (lent c.lends p.area))) accepted
 
 abbrev pub is_quiet : Call → Bool
 is_quiet (feeding n) = false

@@ -17,6 +17,7 @@ use Rattle.ending.specs.Portions.{unread, step_by}
 use Rattle.session.specs.Transfers.{own_transfer, with_transfer}
 use Rattle.session.specs.declared.session.Session.{Session}
 use Rattle.boards.specs.Boards.{max_boards}
+use Rattle.commands.specs.declared.outcome.Outcome.{Outcome}
 use Rattle.commands.specs.Outcomes.{accepted, short_room, other_area, rules_broken, no_check_runs, unfinished}
 use Rattle.session.specs.Checking.{outcome_of}
 use Rattle.controller.specs.declared.record.Record.{Record}
@@ -38,12 +39,12 @@ pub record SessionUnchanged (r : Record) (room area : List ℕ) (x : CallLeaves)
   pub same_area : x.area ≡ area
 
 -- "as 5"
-abbrev pub IsRefusal : ℕ → Type 0
+abbrev pub IsRefusal : Outcome → Type 0
 IsRefusal n = (n ≡ short_room) ⊎ ((n ≡ other_area) ⊎ (n ≡ rules_broken))
 
 -- "Calls check 9, 6, 5": "Outcome 9 is given exactly when" the record breaks its rules, and 6 and 5 exactly when theirs are broken and
 -- nothing before them is
-pub record Refuses (r : Record) (room area : List ℕ) (outcome : ℕ) : Type 0 where
+pub record Refuses (r : Record) (room area : List ℕ) (outcome : Outcome) : Type 0 where
   pub nine : (outcome ≡ rules_broken) ↔ (unlawful_record r ≡ true)
   pub six : unlawful_record r ≡ false → (outcome ≡ other_area) ↔ (length area ≡ r.session.opened → ⊥)
   pub five : unlawful_record r ≡ false → length area ≡ r.session.opened → (outcome ≡ short_room) ↔ (length room < min_room)
@@ -62,7 +63,7 @@ Leaving =
 
 -- ---- a portion call
 
-abbrev pub IsPortionRefusal : ℕ → Type 0
+abbrev pub IsPortionRefusal : Outcome → Type 0
 IsPortionRefusal n = IsRefusal n ⊎ (n ≡ no_check_runs)
 
 abbrev pub checking_on : Session → Check → Session

@@ -1,5 +1,6 @@
 -- The definitions that the contracts of `controller` cite, and its claims.
 pub mod Records
+pub mod Refusing
 pub mod Calls
 pub mod Portions
 pub mod OutwardReport

@@ -1,12 +1,14 @@
 -- Document 02, K5: a portion call: everything that it gives and leaves, on every outcome. Assumes nothing.
-use Rattle.std.specs.Prelude.{◌≡◌, cond, List, ℕ, eqb, length}
+use Rattle.std.specs.Prelude.{◌≡◌, cond, List, ℕ, length}
 use Rattle.frames.specs.LiveReading.{Call}
 use Rattle.image.specs.declared.check.Verdict.TheVariants.{Unfinished}
 use Rattle.session.specs.declared.check.Checked.{Checked}
+use Rattle.commands.specs.declared.outcome.Outcome.{Outcome}
 use Rattle.commands.specs.Outcomes.{accepted}
 use Rattle.session.specs.Checking.{checked}
 use Rattle.controller.specs.declared.record.Record.{Record}
 use Rattle.controller.specs.declared.portion.Portioned.{Portioned}
+use Rattle.commands.specs.Outcomes.{same_outcome}
 use Rattle.controller.specs.Calls.{refusal_of, reply_size_of, reply_room_of}
 
 -- what a portion call gives, and the room as it leaves it; the area is only read
@@ -15,7 +17,7 @@ pub record PortionLeaves : Type 0 where
   pub room : List ℕ
 
 -- "count 0, unfinished, nothing changed"
-abbrev pub refused_portion : ℕ → Record → Portioned
+abbrev pub refused_portion : Outcome → Record → Portioned
 refused_portion outcome r = record { outcome = outcome; reply_length = 0; count = 0; verdict = Unfinished; next = r }
 
 -- the session's part, with a reply of this length; it leaves the held bytes and "what stands past the held bytes"
@@ -41,7 +43,7 @@ checked_portion c r room =
 unfoldable pub portion_call : ℕ → Record → List ℕ → List ℕ → PortionLeaves
 portion_call most r room area =
     let code = refusal_of r (length room) (length area) in
-    cond (eqb code accepted) (checked_portion (checked r.session most area) r room)
+    cond (same_outcome code accepted) (checked_portion (checked r.session most area) r room)
     (record { called = refused_portion code r; room = room })
 
 -- a call of a list: feeding, offered a first part of the bytes not yet taken, or quiet; or a portion, with its largest number

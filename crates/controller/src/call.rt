@@ -1,10 +1,11 @@
 // Feeding and quiet.
 ghost use Rattle.std.specs.Prelude.{◌≡◌};
+ghost use Rattle.controller.specs.Refusing.{if_refused};
 ghost use Rattle.controller.specs.Calls.{refusal_of, refused_call, ReplyLeft, finished_call, fed_call, quieted_call, Leaves};
 
 use crate::record::Record;
 use commands::limits::MAX_REPLY;
-use commands::outcome;
+use commands::outcome::Outcome;
 use frames::reader::Fed;
 use fronts::OVERHEAD;
 use replies::reply;
@@ -14,9 +15,10 @@ use session::session::Session;
 pub const MIN_ROOM: usize = OVERHEAD + MAX_REPLY;
 
 // What a call gives. The reply is the first `reply_length` bytes of the room; `command` and `data_length` are the frame's.
+// No `Result`: every outcome hands back a record, and 01 says these numbers for each.
 #[derive(Clone, Copy)]
 pub struct Called {
-    pub outcome: u8,
+    pub outcome: Outcome,
     pub reply_length: usize,
     pub taken: usize,
     pub dropped: usize,
@@ -27,54 +29,49 @@ pub struct Called {
 
 impl Record {
     // Feeds new bytes from the line. `taken` of them are used; the others are to be offered again.
+    #[tactic(auto, unfolding(crate::specs::Calls::called_by))]
     pub fn feed(self, input: &[u8], room: &mut [u8], area: &mut [u8]) -> Called
         ensures { Leaves (fed_call input.now self room.old area.old) result room.new
             area.new }
     {
-        let code = refusal(self, room.len(), area.len());
-        if code != outcome::ACCEPTED {
-            return refused(self, code);
+        if let Some(outcome) = refusal(self, room.len(), area.len()) {
+            return refused(self, outcome);
         }
-        let reader = self.reader;
-        let session = self.session;
-        let f = reader.feed(input);
-        finish(f, session, room, area)
+        finish(self.reader.feed(input), self.session, room, area)
     }
 
     // Tells that the line is quiet: what is held and is no whole frame is dropped.
+    // It says in full what `feed` does: one body for both takes the reading as a closure, which is no shorter.
+    #[tactic(auto, unfolding(crate::specs::Calls::called_by))]
     pub fn quiet(self, room: &mut [u8], area: &mut [u8]) -> Called
         ensures { Leaves (quieted_call self room.old area.old) result room.new area.new }
     {
-        let code = refusal(self, room.len(), area.len());
-        if code != outcome::ACCEPTED {
-            return refused(self, code);
+        if let Some(outcome) = refusal(self, room.len(), area.len()) {
+            return refused(self, outcome);
         }
-        let reader = self.reader;
-        let session = self.session;
-        let f = reader.quiet();
-        finish(f, session, room, area)
+        finish(self.reader.quiet(), self.session, room, area)
     }
 }
 
-// 9, 6, 5 in this order, or 0 where the call is not refused.
-pub(crate) fn refusal(r: Record, room: usize, area: usize) -> u8
-    ensures { result ≡ refusal_of r room area }
+// 9, 6, 5 in this order; none where the call is not refused.
+#[tactic(auto, unfolding(crate::specs::Calls::refusal_of))]
+pub(crate) fn refusal(r: Record, room: usize, area: usize) -> Option<Outcome>
+    ensures { result ≡ if_refused (refusal_of r room area) }
 {
     if r.unlawful() {
-        return outcome::RULES_BROKEN;
+        return Some(Outcome::RulesBroken);
     }
-    let session = r.session;
-    if area != session.opened {
-        return outcome::OTHER_AREA;
+    if area != r.session.opened {
+        return Some(Outcome::OtherArea);
     }
     if room < MIN_ROOM {
-        return outcome::SHORT_ROOM;
+        return Some(Outcome::ShortRoom);
     }
-    outcome::ACCEPTED
+    None
 }
 
 // Nothing is taken and nothing changes.
-fn refused(r: Record, outcome: u8) -> Called
+fn refused(r: Record, outcome: Outcome) -> Called
     ensures { result ≡ refused_call outcome r }
 {
     Called {
@@ -89,37 +86,37 @@ fn refused(r: Record, outcome: u8) -> Called
 }
 
 // What the reading's end makes of the session: an answer where it found a frame.
+#[tactic(auto, unfolding(crate::specs::Calls::finished_call))]
 fn finish(f: Fed, session: Session, room: &mut [u8], area: &mut [u8]) -> Called
     ensures { Leaves (finished_call f session room.old area.old) result room.new area.new }
 {
-    let reader = f.next;
     if f.found {
-        let frame = f.frame;
-        let a = session.answer(frame, area);
-        let next = a.session;
-        let data = a.reply;
-        let reply_length = write_reply(a.replies, frame.command, data, room);
+        let a = session.answer(f.frame, area);
+        let reply_length = write_reply(a.replies, f.frame.command, a.reply, room);
         return Called {
             outcome: a.outcome,
             reply_length,
             taken: f.taken,
             dropped: f.dropped,
-            command: frame.command,
-            data_length: frame.length,
+            command: f.frame.command,
+            data_length: f.frame.length,
             next: Record {
-                reader,
-                session: next,
+                reader: f.next,
+                session: a.session,
             },
         };
     }
     Called {
-        outcome: outcome::NO_FRAME_YET,
+        outcome: Outcome::NoFrameYet,
         reply_length: 0,
         taken: f.taken,
         dropped: f.dropped,
         command: 0,
         data_length: 0,
-        next: Record { reader, session },
+        next: Record {
+            reader: f.next,
+            session,
+        },
     }
 }
 

@@ -14,15 +14,11 @@ pub struct Record {
 
 impl Record {
     // Whether the record breaks its rules: outcome 9's sentence.
+    #[tactic(auto, unfolding(crate::specs::Records::unlawful_record))]
     pub fn unlawful(self) -> bool
         ensures { result ≡ unlawful_record self }
     {
-        let reader = self.reader;
-        let session = self.session;
-        if MAX_FRAME < reader.count {
-            return true;
-        }
-        session.unlawful()
+        MAX_FRAME < self.reader.count || self.session.unlawful()
     }
 
     // Whether an end check runs: portions of it are due.

@@ -1,6 +1,6 @@
 -- What the tests of `folding` mean: offsets lie within bounds, and places in a buffer. Assumes nothing.
 use mathlib.Core.Path.{◌≡◌, refl, ap, ap₂, ◌∙◌}
-use mathlib.Core.Bool.{Bool, true, false, cond, ◌&&◌}
+use mathlib.Core.Bool.{Bool, true, cond, ◌&&◌}
 use mathlib.Core.List.{List, [], ◌∷◌}
 use mathlib.Core.Logic.{◌↔◌}
 use Prim.Native.Nat.{ℕ, zero, suc, ◌+◌, ◌≤◌, zero-le}
@@ -9,21 +9,18 @@ use borrow.Author.Tests.{leb-true, le-leb}
 use lib.Dec.{leb}
 use lib.ListN.{length, drop}
 use lib.Seq.{paste}
+use Rattle.std.proofs.lemmas.Bool.{and_parts}
 use Rattle.crc.specs.Folding.{Within, all_within, sweepable, movable, swept, unswept}
-
-both : (a b : Bool) → (a && b) ≡ true → (a ≡ true) × (b ≡ true)
-both true b e = (refl, e)
-both false b e = let z : ◌≡◌ {A = ℕ} 0 1 = cc in absurd (omega arith)
 
 -- every offset is within the bounds exactly where the test says so
 pub means-within : (l m : ℕ) (offs : List ℕ) → all_within l m offs ≡ true → Within l m offs
 unfolding all_within
 means-within l m [] e n h = absurd (omega arith)
 means-within l m (a ∷ os) e zero h =
-    let first = both (leb l a) (leb a m && all_within l m os) e in
-    (leb-true l a first.0, leb-true a m (both (leb a m) (all_within l m os) first.1).0)
+    let first = and_parts (leb l a) (leb a m && all_within l m os) e in
+    (leb-true l a first.0, leb-true a m (and_parts (leb a m) (all_within l m os) first.1).0)
 means-within l m (a ∷ os) e (suc n) h =
-    means-within l m os (both (leb a m) (all_within l m os) (both (leb l a) (leb a m && all_within l m os) e).1).1 n (omega arith)
+    means-within l m os (and_parts (leb a m) (all_within l m os) (and_parts (leb l a) (leb a m && all_within l m os) e).1).1 n (omega arith)
 
 pub is_within : (l m : ℕ) (offs : List ℕ) → Within l m offs → all_within l m offs ≡ true
 unfolding all_within
@@ -36,7 +33,7 @@ is_within l m (a ∷ os) w =
 pub sweepable_where : (offs : List ℕ) (p n size : ℕ) → (sweepable offs p n size ≡ true) ↔ (Within 0 p offs × (p + n ≤ size))
 unfolding sweepable
 sweepable_where offs p n size = (
-  λ e. let parts = both (all_within 0 p offs) (leb (p + n) size) e in (means-within 0 p offs parts.0, leb-true (p + n) size parts.1),
+  λ e. let parts = and_parts (all_within 0 p offs) (leb (p + n) size) e in (means-within 0 p offs parts.0, leb-true (p + n) size parts.1),
   λ h. ap₂ ◌&&◌ (is_within 0 p offs h.0) (le-leb (p + n) size h.1),
 )
 
@@ -44,7 +41,7 @@ sweepable_where offs p n size = (
 pub movable_where : (from to n size : ℕ) → (movable from to n size ≡ true) ↔ ((to ≤ from) × (from + n ≤ size))
 unfolding movable
 movable_where from to n size = (
-  λ e. let parts = both (leb to from) (leb (from + n) size) e in (leb-true to from parts.0, leb-true (from + n) size parts.1),
+  λ e. let parts = and_parts (leb to from) (leb (from + n) size) e in (leb-true to from parts.0, leb-true (from + n) size parts.1),
   λ h. ap₂ ◌&&◌ (le-leb to from h.0) (le-leb (from + n) size h.1),
 )
 

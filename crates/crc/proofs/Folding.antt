@@ -12,12 +12,14 @@ use lib.ListN.{length, take, drop, get_or, set, replicate, length-append, length
 use lib.ListN.{replicate-append-replicate}
 use lib.Seq.{paste, length-paste, sets, sets-eq, take_at, drop_at, take-set-le, drop-set-add, drop-cons, take-take, take-add}
 use lib.Seq.{take-append-le, length-take-le, get_or-drop, get_or-set_same, get_or-set_other}
+use Rattle.std.specs.Int.Bits.{xor_assoc}
+use Rattle.std.proofs.lemmas.List.{append-nil, take-replicate}
 use Rattle.crc.specs.Crc.{Kind, byte_step, update}
 use Rattle.crc.specs.Tables.{zero_bytes}
 use Rattle.crc.specs.Folding.{sum_over, Within, Multiple, gathered, swept, unswept, standing, Stands, Carries, met, unmet}
 use Rattle.crc.specs.Folding.{sweepable, movable}
 use Rattle.crc.proofs.Bounds.{sweeps, moves}
-use Rattle.crc.proofs.Xor.{xor_assoc, xor_medial}
+use Rattle.crc.proofs.Xor.{xor_medial}
 use Rattle.crc.proofs.Linear.{byte-none, byte-sum, update_from}
 use Rattle.crc.proofs.Meeting.{length-met, update-met}
 use Rattle.crc.proofs.Updates.{update-none, update-append, update-next, update-rest}
@@ -59,11 +61,6 @@ zeros_register : (k : Kind) (n : ℕ) → update k 0 (replicate n 0) ≡ 0
 unfolding update
 zeros_register k zero = refl
 zeros_register k (suc n) = ap (λ (r : ℕ). update k r (replicate n 0)) (byte-none k) ∙ zeros_register k n
-
-take-zeros : (n m : ℕ) → n ≤ m → take {A = ℕ} n (replicate m 0) ≡ replicate n 0
-take-zeros zero m h = refl
-take-zeros (suc n) zero h = absurd (omega arith)
-take-zeros (suc n) (suc m) h = ap (λ (l : List ℕ). 0 ∷ l) (take-zeros n m (omega arith))
 
 module _ (k : Kind) (d : ℕ) (offs : List ℕ) (w : Within 1 d offs) where
   -- ---- what swept bytes stand for
@@ -199,7 +196,7 @@ module _ (k : Kind) (d : ℕ) (offs : List ℕ) (w : Within 1 d offs) where
       sym (take-take (d - a) d b (omega arith))
       ∙ ap (take (d - a)) bytes
       ∙ take-append-le (d - a) (replicate e 0) head (rw length-replicate within)
-      ∙ take-zeros (d - a) e within in
+      ∙ take-replicate {X = ℕ} (d - a) e 0 within in
       ap (update k 0) reached ∙ zeros_register k (d - a)) in
       ap₂ bit_xor (ap (update k 0) bytes ∙ update-append k 0 (replicate e 0) head ∙ ap (λ (r : ℕ). update k r head) (zeros_register k e))
       (none ∙ sum-none offs)
@@ -210,7 +207,7 @@ module _ (k : Kind) (d : ℕ) (offs : List ℕ) (w : Within 1 d offs) where
       → update k 0 (unswept offs d d b) ≡ standing k offs d (drop d b)
   standing-last b zeros l =
       let start : standing k offs d b ≡ 0 = standing-first d [] b (add-zero d) (λ n h. (omega arith, (w n h).1))
-      (zeros ∙ append-none (replicate d 0)) ∙ update-none k 0 in
+      (zeros ∙ sym (append-nil (replicate d 0))) ∙ update-none k 0 in
       let after : (n : ℕ) → update k 0 (take (d + n) b) ≡ update k 0 (take n (drop d b)) =
       λ n. ap (update k 0) (take-add d n b) ∙ update-append k 0 (take d b) (take n (drop d b))
       ∙ ap (λ (r : ℕ). update k r (take n (drop d b))) (ap (update k 0) zeros ∙ zeros_register k d) in
@@ -219,10 +216,6 @@ module _ (k : Kind) (d : ℕ) (offs : List ℕ) (w : Within 1 d offs) where
       let place : d + d - a ≡ d + (d - a) = omega arith in
       ap (λ (x : ℕ). update k 0 (take x b)) place ∙ after (d - a)) in
       ap (λ (r : ℕ). update k r (unswept offs d d b)) (sym start) ∙ unswept-standing b d d (omega arith) l ∙ ap₂ bit_xor (after d) each
-    where
-      append-none : (l : List ℕ) → l ≡ l ++ []
-      append-none [] = refl
-      append-none (x ∷ m) = ap (λ (r : List ℕ). x ∷ r) (append-none m)
 
   -- ---- the buffer that a loop sweeps part after part into
 
@@ -234,7 +227,7 @@ module _ (k : Kind) (d : ℕ) (offs : List ℕ) (w : Within 1 d offs) where
       let zeros = replicate {A = ℕ} room 0 in
       let long : length zeros ≡ room = length-replicate {A = ℕ} room 0 in
       let after = drop (d + e + length head) zeros in
-      let before : take (d + e) zeros ≡ replicate d 0 ++ replicate e 0 = take-zeros (d + e) room (omega arith)
+      let before : take (d + e) zeros ≡ replicate d 0 ++ replicate e 0 = take-replicate {X = ℕ} (d + e) room 0 (omega arith)
       ∙ sym (replicate-append-replicate d e 0) in
       let whole : sets zeros (d + e) head ≡ replicate d 0 ++ ((replicate e 0 ++ head) ++ after) =
       sets-eq head zeros (d + e) (omega arith)

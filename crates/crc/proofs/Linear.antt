@@ -5,9 +5,10 @@ use Prim.Native.Nat.{ℕ, zero, suc, ◌+◌, ◌-◌, ◌*◌, ◌/◌, ◌%◌
 use native.Mathlib.Nat.{add-zero, add-suc}
 use lib.ListN.{length}
 use lib.Bits.{bit_xor, xor_shr, xor_mod, xor_self, xor_zero_r}
+use Rattle.std.specs.Int.Bits.{xor_assoc}
 use Rattle.crc.specs.Crc.{Direction, normal, reflected, Kind, leaving, shifted, entering, bit, bits, byte_step, update}
 use Rattle.crc.specs.Tables.{zero_bytes}
-use Rattle.crc.proofs.Xor.{odd_lt, xor_assoc, xor_medial, xor_shl, xor_times}
+use Rattle.crc.proofs.Xor.{odd_lt, xor_medial, xor_shl, xor_times}
 
 leaving_lt : (d : Direction) (w a : ℕ) → leaving d w a < 2
 leaving_lt normal w a = odd_lt (a / 2 ^ (w - 1))

@@ -1,42 +1,31 @@
 -- A loop that carries the register on over a message, part after part. Assumes nothing.
-use mathlib.Core.Path.{◌≡◌, refl, ap, subst, ◌∙◌}
-use mathlib.Core.List.{List}
-use Prim.Native.Nat.{ℕ, ◌+◌, ◌-◌, ◌≤◌}
+use mathlib.Core.Path.{◌≡◌, sym, ap, subst, ◌∙◌}
+use mathlib.Core.List.{List, [], ◌∷◌, ◌++◌}
+use Prim.Native.Nat.{ℕ}
 use native.Mathlib.Omega.{arith}
-use lib.ListN.{length, take, drop, length-drop}
-use lib.Seq.{take_all, length-take-le}
+use lib.ListN.{length}
 use Rattle.crc.specs.Crc.{Kind, update}
 use Rattle.crc.specs.Folding.{Stands, Carries}
-use Rattle.crc.proofs.Updates.{update_skip}
+use Rattle.crc.proofs.Updates.{update-append}
 
--- what it keeps: it started with b and has c, as long as the buffer is, and the first i bytes of s are done
-abbrev pub CarriedOn : Kind → ℕ → List ℕ → ℕ → List ℕ → List ℕ → List ℕ → ℕ → Type 0
-CarriedOn k d offs size s b c i = (i ≤ length s) × ((length c ≡ size) × Carries k d offs (take i s) b c)
+-- what it keeps: it started with b and has c, which stands for a register that the bytes that are left carry on to the one after s
+abbrev pub CarriedOn : Kind → ℕ → List ℕ → List ℕ → List ℕ → List ℕ → List ℕ → Type 0
+CarriedOn k d offs s b c left = (r : ℕ) → Stands k d offs r b → (q : ℕ) × (Stands k d offs q c × (update k q left ≡ update k r s))
 
--- the next part, n bytes after the first i, is not longer than any may be
-pub part_fits : (s : List ℕ) (i n most : ℕ) → i + n ≤ length s → n ≤ most → length (take (i + n - i) (drop i s)) ≤ most
-part_fits s i n most there few =
-    let all : length (take (i + n - i) (drop i s)) ≡ i + n - i = length-take-le (i + n - i) (drop i s) (rw length-drop (omega arith)) in
-    omega arith
+module _ (k : Kind) (d : ℕ) (offs : List ℕ) (s b : List ℕ) where
+  pub carried_none : (left : List ℕ) → left ≡ s → CarriedOn k d offs s b b left
+  carried_none left all r at = (r, (at, ap (update k r) all))
 
-module _ (k : Kind) (d : ℕ) (offs : List ℕ) (size : ℕ) (s b : List ℕ) where
-  pub carried_none : length b ≡ size → CarriedOn k d offs size s b b 0
+  pub carried_next : (c e left part more : List ℕ) → left ≡ part ++ more → Carries k d offs part c e → CarriedOn k d offs s b c left
+      → CarriedOn k d offs s b e more
+  carried_next c e left part more split done before r at =
+      let now = before r at in
+      let q = now.0 in
+      (update k q part, (done q now.1.0, sym (ap (update k q) split ∙ update-append k q part more) ∙ now.1.1))
+
+  pub carried_all : (c left : List ℕ) → length left ≡ 0 → CarriedOn k d offs s b c left → Carries k d offs s b c
   unfolding update
-  carried_none long = (omega arith, (long, λ r at. at))
-
-  pub carried-next : (c e : List ℕ) (i n : ℕ) → CarriedOn k d offs size s b c i → i + n ≤ length s
-      → (length e ≡ size) × Carries k d offs (take (i + n - i) (drop i s)) c e → CarriedOn k d offs size s b e (i + n)
-  carried-next c e i n before there part =
-      let few : i + n - i ≡ n = omega arith in (
-        there,
-        (
-          part.0,
-          λ r at.
-              subst (λ (x : ℕ). Stands k d offs x e)
-              (ap (λ (m : ℕ). update k (update k r (take i s)) (take m (drop i s))) few ∙ update_skip k r s i n refl)
-              (part.1 (update k r (take i s)) (before.1.1 r at)),
-        ),
-      )
-
-  pub carried-all : (c : List ℕ) (i : ℕ) → CarriedOn k d offs size s b c i → length s ≤ i → Carries k d offs s b c
-  carried-all c i before end = subst (λ (l : List ℕ). Carries k d offs l b c) (take_all i s end) before.1.1
+  carried_all c [] none before r at =
+      let now = before r at in
+      subst (λ (x : ℕ). Stands k d offs x c) now.1.1 now.1.0
+  carried_all c (x ∷ left) none before r at = absurd (omega arith)

@@ -5,9 +5,9 @@ use native.Mathlib.Nat.{mod-lt, zero-mul, mul-one, mul_assoc, mul_comm, pow-suc,
 use native.Mathlib.Omega.{arith}
 use lib.Pow.{pow_pos, pow_mono, split}
 use lib.Bits.{bit_xor, xor_comm, xor_shifted, shifted_even, shifted_half}
+use Rattle.std.specs.Int.Bits.{xor_assoc}
 use Rattle.crc.specs.Crc.{Direction, normal, reflected, Kind, leaving, shifted, entering, bit, bits, byte_step}
 use Rattle.crc.specs.Tables.{front, rest}
-use Rattle.crc.proofs.Xor.{xor_assoc}
 use Rattle.crc.proofs.Linear.{bits-xor, entering-xor}
 
 -- the bits of the register that the next byte is not added to, in their place

@@ -40,27 +40,3 @@ update_skip k r s i n e =
 pub update-rest : (k : Kind) (r : ℕ) (s : List ℕ) (i : ℕ) {c : ℕ} → i ≤ length s → c ≡ update k r (take i s)
     → update k c (take (length s - i) (drop i s)) ≡ update k r s
 update-rest k r s i h e = update_skip k r s i (length s - i) e ∙ ap (update k r) (take_all (i + (length s - i)) s (omega arith))
-
--- ---- the same as what a loop over s keeps
-
-abbrev pub Reached : Kind → ℕ → List ℕ → ℕ → ℕ → Type 0
-Reached k r s c i = (i ≤ length s) × (c ≡ update k r (take i s))
-
-module _ (k : Kind) (r : ℕ) (s : List ℕ) where
-  pub reached-none : Reached k r s r 0
-  unfolding update
-  reached-none = (omega arith, refl)
-
-  pub reached-next : (c i e : ℕ) → Reached k r s c i → i < length s → e ≡ byte_step k c (get_or s i 0) → Reached k r s e (i + 1)
-  reached-next c i e at more step = (omega arith, step ∙ update-next k r s i more at.1)
-
-  pub reached_skip : (c i n e : ℕ) → Reached k r s c i → n ≤ length s - i → e ≡ update k c (take n (drop i s)) → Reached k r s e (i + n)
-  reached_skip c i n e at more step =
-      let first = at.0 in
-      (omega arith, step ∙ update_skip k r s i n at.1)
-
-  pub reached-rest : (c i e : ℕ) → Reached k r s c i → e ≡ update k c (take (length s - i) (drop i s)) → e ≡ update k r s
-  reached-rest c i e at step = step ∙ update-rest k r s i at.0 at.1
-
-  pub reached-all : (c i : ℕ) → Reached k r s c i → length s ≤ i → c ≡ update k r s
-  reached-all c i at end = at.1 ∙ ap (update k r) (take_all i s end)

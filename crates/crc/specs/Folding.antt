@@ -60,11 +60,7 @@ Stands k d offs r b = (standing k offs d (drop d b) ≡ r) × (take d b ≡ repl
 abbrev pub Carries : Kind → ℕ → List ℕ → List ℕ → List ℕ → List ℕ → Type 0
 Carries k d offs s b c = (r : ℕ) → Stands k d offs r b → Stands k d offs (update k r s) c
 
--- The buffer is as long as d zeros, the d bytes that count and a part of n bytes
-abbrev pub room : ℕ → ℕ → ℕ
-room d n = d + d + n
-
--- and a message's first n bytes are put down in it at the end of those that count
+-- a message's first n bytes are put down in the buffer at the end of the d bytes that count, which stand behind d zeros
 abbrev pub head_at : ℕ → ℕ → ℕ
 head_at d n = d + (d - n)
 

@@ -1,10 +1,10 @@
 // What a kind of CRC of 16 bits without a final xor has of its own.
-use slicing16::register::Kind16;
+use folding::message::Fold;
 
-// Besides what `Kind16` has, the offsets of a multiple of its polynomial, the farthest of them again as `far`.
+// The polynomial, written reflected where the kind is, is for the contracts: the code needs only the tables and offsets made from it.
 #[derive(Clone, Copy)]
 pub(crate) struct Parameters {
-    pub kind: Kind16,
-    pub offsets: [usize; 3],
-    pub far: usize,
+    pub poly: u16,
+    pub start: u16,
+    pub fold: Fold<3>,
 }

@@ -5,16 +5,12 @@ use Rattle.crc.specs.Crc.{bit, bits, byte_step, crc32}
 use Rattle.crc.specs.Folding.{Within, all_within, Multiple}
 use Rattle.crc.specs.Tables.{zero_bytes}
 use Rattle.crc.proofs.Bounds.{means-within}
-use Rattle.crc.proofs.Folding.{within_wider}
 use Rattle.crc.proofs.Multiples.{multiple-test, multiple}
 use Rattle.crc32.specs.Offsets.{offsets, far}
 
 pub within_four : Within 4 far offsets
 unfolding all_within
 within_four = means-within 4 far offsets refl
-
-pub within-one : Within 1 far offsets
-within-one = within_wider 4 far 1 far offsets (lit≤ tt) (lit≤ tt) within_four
 
 pub offsets-multiple : Multiple crc32 far offsets
 unfolding multiple-test zero_bytes byte_step bits bit crc32

@@ -1,3 +1,2 @@
 -- What belongs to no one function.
-mod FirstBytes
 mod Foldable

@@ -1,7 +1,7 @@
 #![tactic(auto)]
 
 // CRC-32 of a slice of bytes: a long message is folded to a few bytes with the same register (`fold`), these go by tables, sixteen at a
-// time (the crate `slicing32`).
+// time (the crate `slicing`).
 //
 // What a CRC is stands in specs/Crc.antt of the crate `crc`; each function here is equal to that definition. A long message may be
 // taken in parts: start at `INIT`, `update` over each part in turn, then `finish`. `checksum` is the three in one.
@@ -11,6 +11,8 @@ mod tables;
 ghost use Rattle.std.specs.Prelude.{◌≡◌};
 ghost use Rattle.crc.specs.Crc.{update, finish, checksum, crc32};
 ghost use Rattle.crc.specs.Tables.{Tabled};
+
+use slicing::register::Direction;
 
 // The register before the first byte.
 pub const INIT: u32 = 0xFFFFFFFF;
@@ -36,7 +38,7 @@ fn over(t: &[u32; 512], register: u32, s: &[u8]) -> u32
     ensures { result ≡ update crc32 register s.now }
 {
     if s.len() < fold::LEAST {
-        return slicing32::over(t, register, s);
+        return slicing::over(Direction::Reflected, t, register, s);
     }
     fold::long(t, register, s)
 }

@@ -8,8 +8,6 @@ use Rattle.phrases.specs.declared.phrase.Trouble.{Trouble}
 use Rattle.phrases.specs.Phrases.{is_fine}
 use Rattle.sender.specs.declared.sender.Sender.{Sender}
 use Rattle.sender.specs.Senders.{no_sender}
-use Rattle.text.specs.declared.output.Output.{Output}
-use Rattle.text.specs.Outputs.{nothing}
 use Rattle.desk.specs.declared.desk.Desk.{Desk}
 use Rattle.desk.specs.Lent.{memory_size}
 
@@ -23,7 +21,6 @@ empty_desk =
       room = memory_size;
       area = memory_size;
       image = 0;
-      output = nothing;
     }
 
 abbrev pub is_bad : Trouble → Bool
@@ -39,7 +36,6 @@ module _ (d : Desk) where
         room = d.room;
         area = d.area;
         image = d.image;
-        output = d.output;
       }
 
   abbrev pub with_sender : Sender → Desk
@@ -51,7 +47,6 @@ module _ (d : Desk) where
         room = d.room;
         area = d.area;
         image = d.image;
-        output = d.output;
       }
 
   abbrev pub with_list : List Board → Desk
@@ -63,7 +58,6 @@ module _ (d : Desk) where
         room = d.room;
         area = d.area;
         image = d.image;
-        output = d.output;
       }
 
   -- so much of each memory is lent
@@ -76,17 +70,4 @@ module _ (d : Desk) where
         room = room;
         area = area;
         image = image;
-        output = d.output;
-      }
-
-  abbrev pub with_output : Output → Desk
-  with_output o =
-      record {
-        list = d.list;
-        «record» = d.record;
-        sender = d.sender;
-        room = d.room;
-        area = d.area;
-        image = d.image;
-        output = o;
       }

@@ -3,6 +3,7 @@
 use Rattle.std.specs.Prelude.{◌≡◌, Bool, false, cond, List, [], ◌∷◌, ◌++◌, ℕ, ◌+◌, eqb, ltb, length, take}
 use Rattle.answers.specs.Answers.{begun_texts, called_texts, portioned_texts, framed_texts, decided_texts, changed_texts, sender_changed_texts}
 use Rattle.answers.specs.Answers.{line_end}
+use Rattle.commands.specs.Outcomes.{outcome_number}
 use Rattle.controller.specs.Records.{no_record, opened_record}
 use Rattle.controller.specs.Calls.{CallLeaves, fed_call, quieted_call}
 use Rattle.controller.specs.declared.call.Called.{Called}
@@ -21,6 +22,7 @@ use Rattle.sender.specs.Opening.{opened_sender}
 use Rattle.sender.specs.Requests.{requested, room_requested}
 use Rattle.text.specs.Ascii.{ascii}
 use Rattle.text.specs.Decimals.{decimal}
+use Rattle.text.specs.declared.output.Output.{Output}
 use Rattle.desk.specs.declared.desk.Desk.{Desk}
 use Rattle.desk.specs.Desks.{with_record, with_sender, with_list, lending}
 use Rattle.desk.specs.Lent.{lent_length, left_as}
@@ -107,7 +109,7 @@ module _ (d : Desk) (number : ℕ) where
   abbrev pub open_texts : Phrase → List (List ℕ)
   open_texts p =
       let o = opened_record d.list p.first p.second in
-      begun_texts number (ascii " open ") ++ decimal o.outcome ∷ [] ++ changed_texts d.record o.next
+      begun_texts number (ascii " open ") ++ decimal (outcome_number o.outcome) ∷ [] ++ changed_texts d.record o.next
 
   -- a line of feeding or quiet, which gave c: room and area before and after, as far as they were lent
   abbrev pub call_texts : List ℕ → Called → List ℕ → List ℕ → List ℕ → List ℕ → List (List ℕ)
@@ -115,14 +117,15 @@ module _ (d : Desk) (number : ℕ) where
       begun_texts number name ++ called_texts c room room' area area' ++ changed_texts d.record c.next
 
   -- feeding or quiet, of which x is left: the desk has its record, room and area are as it left them, and that is told
-  pub record CallDone (name : List ℕ) (x : CallLeaves) (room area out : List ℕ) (r : Desk) (room' area' out' : List ℕ) : Type 0 where
+  pub record CallDone (name : List ℕ) (x : CallLeaves) (room area : List ℕ) (o : Output) (r : Desk) (room' area' : List ℕ) (o' : Output) :
+      Type 0 where
     pub leaves-room : room' ≡ room_left d x.room room
     pub leaves-area : area' ≡ area_left d x.area area
     pub tells :
-        DeskTold d.output (with_record d x.called.next)
+        DeskTold o (with_record d x.called.next)
         (call_texts name x.called (lent_room d room) (lent_room d (room_left d x.room room)) (lent_area d area)
         (lent_area d (area_left d x.area area)))
-        out r out'
+        r o'
 
   -- a line of a portion
   abbrev pub portion_texts : PortionLeaves → List ℕ → List (List ℕ)
@@ -131,15 +134,15 @@ module _ (d : Desk) (number : ℕ) where
       ++ portioned_texts x.called (lent_room d room) (lent_room d (room_left d x.room room))
       ++ changed_texts d.record x.called.next
 
-  pub record PortionDone (x : PortionLeaves) (room out : List ℕ) (r : Desk) (room' out' : List ℕ) : Type 0 where
+  pub record PortionDone (x : PortionLeaves) (room : List ℕ) (o : Output) (r : Desk) (room' : List ℕ) (o' : Output) : Type 0 where
     pub leaves-room : room' ≡ room_left d x.room room
-    pub tells : DeskTold d.output (with_record d x.called.next) (portion_texts x room) out r out'
+    pub tells : DeskTold o (with_record d x.called.next) (portion_texts x room) r o'
 
   -- `report OUTCOME frame=BYTES past=SPAN`
   abbrev pub report_texts : List ℕ → List (List ℕ)
   report_texts room =
       let x = reported d.record (lent_room d room) in
-      begun_texts number (ascii " report ") ++ framed_texts x.outcome x.length (lent_room d room) (lent_room d (report_room d room))
+      begun_texts number (ascii " report ") ++ framed_texts (outcome_number x.outcome) x.length (lent_room d room) (lent_room d (report_room d room))
 
   -- `show CHANGES`, "since the all-zero record"
   abbrev pub show_texts : List (List ℕ)
@@ -166,21 +169,21 @@ module _ (d : Desk) (number : ℕ) where
   abbrev pub sender_open_texts : ℕ → List ℕ → ℕ → List (List ℕ)
   sender_open_texts size b n =
       let o = opened_sender (offer_said size b n) in
-      begun_texts number (ascii " sender open ") ++ decimal o.outcome ∷ [] ++ sender_changed_texts d.sender o.sender
+      begun_texts number (ascii " sender open ") ++ decimal (outcome_number o.outcome) ∷ [] ++ sender_changed_texts d.sender o.sender
 
   -- `sender request OUTCOME frame=BYTES past=SPAN`
   abbrev pub request_texts : List ℕ → List ℕ → List (List ℕ)
   request_texts image room =
       let x = requested d.sender image (lent_room d room) in
       begun_texts number (ascii " sender request ")
-      ++ framed_texts x.outcome x.length (lent_room d room) (lent_room d (request_room d image room))
+      ++ framed_texts (outcome_number x.outcome) x.length (lent_room d room) (lent_room d (request_room d image room))
 
   -- `sender reply OUTCOME decision=D CHANGES`, `sender silence OUTCOME decision=D CHANGES`
   abbrev pub decision_texts : List ℕ → Decided → List (List ℕ)
   decision_texts name x = begun_texts number name ++ decided_texts x ++ sender_changed_texts d.sender x.next
 
-  abbrev pub Decides : List ℕ → Decided → List ℕ → Desk → List ℕ → Type 0
-  Decides name x out r out' = DeskTold d.output (with_sender d x.next) (decision_texts name x) out r out'
+  abbrev pub Decides : List ℕ → Decided → Output → Desk → Output → Type 0
+  Decides name x o r o' = DeskTold o (with_sender d x.next) (decision_texts name x) r o'
 
   -- `sender show CHANGES`, "since the all-zero record"
   abbrev pub sender_show_texts : List (List ℕ)

@@ -7,6 +7,7 @@ use Rattle.phrases.specs.Places.{set_boards_at, sender_open_at, sender_request_a
 use Rattle.sender.specs.Replies.{after_reply}
 use Rattle.sender.specs.Silences.{after_silence}
 use Rattle.sequences.specs.Places.{written_at}
+use Rattle.text.specs.declared.output.Output.{Output}
 use Rattle.desk.specs.declared.desk.Desk.{Desk}
 use Rattle.desk.specs.Desks.{is_bad, with_record, with_sender}
 use Rattle.desk.specs.Telling.{DeskTold}
@@ -25,8 +26,8 @@ pub record DeskEffect : Type 0 where
   pub image : List ℕ
 
 -- the contract: all of it is the definition's, and the line stands behind those that wait
-pub record Done (e : DeskEffect) (d : Desk) (out : List ℕ) (r : Desk) (room area image out' : List ℕ) : Type 0 where
-  pub tells : DeskTold d.output e.desk e.texts out r out'
+pub record Done (e : DeskEffect) (o : Output) (r : Desk) (room area image : List ℕ) (o' : Output) : Type 0 where
+  pub tells : DeskTold o e.desk e.texts r o'
   pub leaves-room : room ≡ e.room
   pub leaves-area : area ≡ e.area
   pub leaves-image : image ≡ e.image
@@ -146,15 +147,15 @@ module _ (d : Desk) (number : ℕ) (p : Phrase) (b room area image : List ℕ) w
       (cond (ltb p.command sender_set_channel_at) sent (telling (sender_set_desk d p b) (sender_set_texts d number p b))))))
 
 -- the controller's calls are not lent the image, which can be any
-abbrev pub ControlDone : Desk → ℕ → Phrase → List ℕ → List ℕ → List ℕ → List ℕ → Desk → List ℕ → List ℕ → List ℕ → Type 0
-ControlDone d number p b room area out r room' area' out' =
-    (image : List ℕ) → Done (controlled d number p b room area image) d out r room' area' image out'
+abbrev pub ControlDone : Desk → ℕ → Phrase → List ℕ → List ℕ → List ℕ → Output → Desk → List ℕ → List ℕ → Output → Type 0
+ControlDone d number p b room area o r room' area' o' =
+    (image : List ℕ) → Done (controlled d number p b room area image) o r room' area' image o'
 
-abbrev pub WatchDone : Desk → ℕ → Phrase → List ℕ → List ℕ → List ℕ → List ℕ → Desk → List ℕ → List ℕ → Type 0
-WatchDone d number p b room area out r room' out' =
-    (image : List ℕ) → Done (watched d number p b room area image) d out r room' area image out'
+abbrev pub WatchDone : Desk → ℕ → Phrase → List ℕ → List ℕ → List ℕ → Output → Desk → List ℕ → Output → Type 0
+WatchDone d number p b room area o r room' o' =
+    (image : List ℕ) → Done (watched d number p b room area image) o r room' area image o'
 
 -- nor the sender's the area
-abbrev pub SentDone : Desk → ℕ → Phrase → List ℕ → List ℕ → List ℕ → List ℕ → Desk → List ℕ → List ℕ → Type 0
-SentDone d number p b room image out r room' out' =
-    (area : List ℕ) → Done (sent d number p b room area image) d out r room' area image out'
+abbrev pub SentDone : Desk → ℕ → Phrase → List ℕ → List ℕ → List ℕ → Output → Desk → List ℕ → Output → Type 0
+SentDone d number p b room image o r room' o' =
+    (area : List ℕ) → Done (sent d number p b room area image) o r room' area image o'

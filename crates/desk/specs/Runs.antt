@@ -9,9 +9,10 @@ use Rattle.phrases.specs.Phrases.{phrase_of, bytes_of}
 use Rattle.sequences.specs.Fields.{byte_at}
 use Rattle.sequences.specs.Places.{written_at}
 use Rattle.text.specs.Ascii.{ascii}
+use Rattle.text.specs.declared.output.Output.{Output}
 use Rattle.text.specs.Outputs.{Flushed}
 use Rattle.desk.specs.declared.run.Run.{Run}
-use Rattle.desk.specs.Desks.{empty_desk, with_output}
+use Rattle.desk.specs.Desks.{empty_desk}
 use Rattle.desk.specs.Telling.{DeskTold}
 use Rattle.desk.specs.Effects.{line_texts}
 use Rattle.desk.specs.Obeying.{obeyed, Done}
@@ -36,46 +37,45 @@ abbrev pub ended : Run → Lines → Run
 ended run l = record { lines = l; desk = run.desk; is_over = true }
 
 -- a command is done, with "the number of its input line"; its bytes are put to the front of those that are lent for them
-pub record CommandDone (run : Run) (l : Lines) (line bytes room area image out : List ℕ) (r : Run) (bytes' room' area' image' out' : List ℕ) :
-    Type 0 where
+pub record CommandDone (run : Run) (l : Lines) (line bytes room area image : List ℕ) (o : Output) (r : Run) (bytes' room' area' image' : List ℕ)
+    (o' : Output) : Type 0 where
   pub keeps : r.lines ≡ l
   pub goes_on : r.is_over ≡ run.is_over
   pub takes : bytes' ≡ written_at bytes 0 (bytes_of line)
-  pub does : Done (obeyed run.desk l.number (phrase_of line) bytes' room area image) run.desk out r.desk room' area' image' out'
+  pub does : Done (obeyed run.desk l.number (phrase_of line) bytes' room area image) o r.desk room' area' image' o'
 
 -- a line: passed over, "Nothing is written for it", or a command
-abbrev pub LineDone : Bool → Run → Lines → List ℕ → List ℕ → List ℕ → List ℕ → List ℕ → List ℕ → Run → List ℕ → List ℕ → List ℕ → List ℕ
-    → List ℕ → Type 0
-LineDone true run l line bytes room area image out r bytes' room' area' image' out' =
-    (r ≡ with_lines run l) × ((bytes' ≡ bytes) × ((room' ≡ room) × ((area' ≡ area) × ((image' ≡ image) × (out' ≡ out)))))
-LineDone false run l line bytes room area image out r bytes' room' area' image' out' =
-    CommandDone run l line bytes room area image out r bytes' room' area' image' out'
+abbrev pub LineDone : Bool → Run → Lines → List ℕ → List ℕ → List ℕ → List ℕ → List ℕ → Output → Run → List ℕ → List ℕ → List ℕ → List ℕ
+    → Output → Type 0
+LineDone true run l line bytes room area image o r bytes' room' area' image' o' =
+    (r ≡ with_lines run l) × ((bytes' ≡ bytes) × ((room' ≡ room) × ((area' ≡ area) × ((image' ≡ image) × (o' ≡ o)))))
+LineDone false run l line bytes room area image o r bytes' room' area' image' o' =
+    CommandDone run l line bytes room area image o r bytes' room' area' image' o'
 
 -- a line that is too long is told, and changes nothing
-pub record PassedTooLong (run : Run) (l : Lines) (out : List ℕ) (r : Run) (out' : List ℕ) : Type 0 where
+pub record PassedTooLong (run : Run) (l : Lines) (o : Output) (r : Run) (o' : Output) : Type 0 where
   pub keeps : r.lines ≡ l
   pub goes_on : r.is_over ≡ run.is_over
-  pub tells : DeskTold run.desk.output run.desk (line_texts l.number long_text) out r.desk out'
+  pub tells : DeskTold o run.desk (line_texts l.number long_text) r.desk o'
 
 -- what waits is written, and the input is read on; a failed read, or write, ends the program
-pub record InputRead (run : Run) (l : Lines) (input : List ℕ) (r : Run) (input' : List ℕ) : Type 0 where
-  pub keeps : r.desk ≡ with_output run.desk r.desk.output
-  pub writes : Flushed run.desk.output r.desk.output
-  pub ends : r.desk.output.failed ≡ true → (r.lines ≡ l) × ((r.is_over ≡ true) × (input' ≡ input))
-  pub reads : r.desk.output.failed ≡ false → ReadOn l input r.lines input' × (r.is_over ≡ r.lines.failed)
+pub record InputRead (run : Run) (l : Lines) (input : List ℕ) (o : Output) (r : Run) (input' : List ℕ) (o' : Output) : Type 0 where
+  pub keeps : r.desk ≡ run.desk
+  pub writes : Flushed o o'
+  pub ends : o'.failed ≡ true → (r.lines ≡ l) × ((r.is_over ≡ true) × (input' ≡ input))
+  pub reads : o'.failed ≡ false → ReadOn l input r.lines input' × (r.is_over ≡ r.lines.failed)
 
 -- a turn, by what comes next
-abbrev pub SessionTurned : Kind → Next → Run → List ℕ → List ℕ → List ℕ → List ℕ → List ℕ → List ℕ → Run → List ℕ → List ℕ → List ℕ → List ℕ
-    → List ℕ → List ℕ → Type 0
-SessionTurned Line next run input bytes room area image out r input' bytes' room' area' image' out' =
-    let line = take next.length (drop next.from input) in
-    LineDone (is_passed_over line) run next.lines line bytes room area image out r bytes' room' area' image' out' × (input' ≡ input)
-SessionTurned TooLong next run input bytes room area image out r input' bytes' room' area' image' out' =
-    PassedTooLong run next.lines out r out'
+abbrev pub SessionTurned : Kind → Next → Run → List ℕ → List ℕ → List ℕ → List ℕ → List ℕ → Output → Run → List ℕ → List ℕ → List ℕ → List ℕ
+    → List ℕ → Output → Type 0
+SessionTurned (Line from n) next run input bytes room area image o r input' bytes' room' area' image' o' =
+    let line = take n (drop from input) in
+    LineDone (is_passed_over line) run next.lines line bytes room area image o r bytes' room' area' image' o' × (input' ≡ input)
+SessionTurned TooLong next run input bytes room area image o r input' bytes' room' area' image' o' =
+    PassedTooLong run next.lines o r o'
     × ((input' ≡ input) × ((bytes' ≡ bytes) × ((room' ≡ room) × ((area' ≡ area) × (image' ≡ image)))))
-SessionTurned Unfinished next run input bytes room area image out r input' bytes' room' area' image' out' =
-    InputRead run next.lines input r input'
-    × ((bytes' ≡ bytes) × ((room' ≡ room) × ((area' ≡ area) × ((image' ≡ image) × (out' ≡ out)))))
-SessionTurned None next run input bytes room area image out r input' bytes' room' area' image' out' =
+SessionTurned Unfinished next run input bytes room area image o r input' bytes' room' area' image' o' =
+    InputRead run next.lines input o r input' o' × ((bytes' ≡ bytes) × ((room' ≡ room) × ((area' ≡ area) × (image' ≡ image))))
+SessionTurned None next run input bytes room area image o r input' bytes' room' area' image' o' =
     (r ≡ ended run next.lines)
-    × ((input' ≡ input) × ((bytes' ≡ bytes) × ((room' ≡ room) × ((area' ≡ area) × ((image' ≡ image) × (out' ≡ out))))))
+    × ((input' ≡ input) × ((bytes' ≡ bytes) × ((room' ≡ room) × ((area' ≡ area) × ((image' ≡ image) × (o' ≡ o))))))

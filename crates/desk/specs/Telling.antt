@@ -3,9 +3,8 @@ use Rattle.std.specs.Prelude.{◌≡◌, List, ℕ}
 use Rattle.text.specs.declared.output.Output.{Output}
 use Rattle.text.specs.Outputs.{TextsAdded}
 use Rattle.desk.specs.declared.desk.Desk.{Desk}
-use Rattle.desk.specs.Desks.{with_output}
 
--- the texts are put behind what `line` has; the desk is the one given, but for its output
-pub record DeskTold (line : Output) (after : Desk) (texts : List (List ℕ)) (out : List ℕ) (r : Desk) (out' : List ℕ) : Type 0 where
-  pub leaves : r ≡ with_output after r.output
-  pub tells : TextsAdded line texts out r.output out'
+-- the desk is the one given; the texts are put behind those that wait
+pub record DeskTold (o : Output) (after : Desk) (texts : List (List ℕ)) (r : Desk) (o' : Output) : Type 0 where
+  pub leaves : r ≡ after
+  pub tells : TextsAdded o texts o'

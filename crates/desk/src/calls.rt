@@ -1,5 +1,6 @@
 // The calls of the controller.
 ghost use Rattle.std.specs.Prelude.{◌≡◌, take};
+ghost use Rattle.text.specs.Outputs.{TextsAdded};
 ghost use Rattle.desk.specs.Desks.{with_record};
 ghost use Rattle.desk.specs.Telling.{DeskTold};
 ghost use Rattle.desk.specs.Obeying.{WatchDone, ControlDone};
@@ -14,7 +15,7 @@ use phrases::phrase::{BYTES, Phrase};
 use phrases::table;
 use sequences::bounds::smaller;
 use sequences::part::front;
-use text::output::SIZE;
+use text::output::Output;
 
 impl Desk {
     pub(crate) fn call(
@@ -26,22 +27,20 @@ impl Desk {
         area: &mut [u8; MEMORY],
         kept: &mut [u8; MEMORY],
         kept_area: &mut [u8; MEMORY],
-        out: &mut [u8; SIZE],
+        output: &mut Output,
     ) -> Desk
-        ensures { ControlDone self number phrase bytes.now room.old area.old out.old result
-            room.new area.new out.new }
+        ensures { ControlDone self number phrase bytes.now room.old area.old output.old result
+            room.new area.new output.new }
     {
-        if phrase.command == table::OPEN {
-            return self.open(number, phrase, out);
+        match phrase.command {
+            table::OPEN => self.open(number, phrase, output),
+            table::FEED => {
+                let fed = front(bytes, phrase.count);
+                self.feed(number, fed, room, area, kept, kept_area, output)
+            }
+            table::QUIET => self.quiet(number, room, area, kept, kept_area, output),
+            _ => self.watch(number, phrase, bytes, room, area, kept, output),
         }
-        if phrase.command == table::FEED {
-            let fed = front(bytes, phrase.count);
-            return self.feed(number, fed, room, area, kept, kept_area, out);
-        }
-        if phrase.command == table::QUIET {
-            return self.quiet(number, room, area, kept, kept_area, out);
-        }
-        self.watch(number, phrase, bytes, room, area, kept, out)
     }
 
     // Portions of the end check, the outward F9, and a look at the record.
@@ -53,29 +52,31 @@ impl Desk {
         room: &mut [u8; MEMORY],
         area: &[u8; MEMORY],
         kept: &mut [u8; MEMORY],
-        out: &mut [u8; SIZE],
+        output: &mut Output,
     ) -> Desk
-        ensures { WatchDone self number phrase bytes.now room.old area.now out.old result
-            room.new out.new }
+        ensures { WatchDone self number phrase bytes.now room.old area.now output.old result
+            room.new output.new }
     {
-        if phrase.command == table::PORTION {
-            return self.portion(number, phrase.first, room, area, kept, out);
+        match phrase.command {
+            table::PORTION => self.portion(number, phrase.first, room, area, kept, output),
+            table::REPORT => {
+                self.report(number, room, kept, output);
+                self
+            }
+            _ => {
+                self.show(number, output);
+                self
+            }
         }
-        if phrase.command == table::REPORT {
-            return self.report(number, room, kept, out);
-        }
-        self.show(number, out)
     }
 
-    fn open(self, number: u64, phrase: Phrase, out: &mut [u8; SIZE]) -> Desk
-        ensures { DeskTold self.output (open_desk self phrase) (open_texts self number phrase) out.old result out.new }
+    fn open(self, number: u64, phrase: Phrase, output: &mut Output) -> Desk
+        ensures { DeskTold output.old (open_desk self phrase) (open_texts self number phrase) result output.new }
     {
-        let list = self.list;
-        let o = Record::open(list, phrase.first, phrase.second);
-        let after = o.next;
-        let begun = answers::begun(self.output, number, b" open ", &mut *out);
-        let line = begun.decimal(o.outcome as u64, &mut *out);
-        self.with_record(line, after, out)
+        let o = Record::open(self.list, phrase.first, phrase.second);
+        answers::begun(output, number, b" open ");
+        output.decimal(u8::from(o.outcome) as u64);
+        self.with_record(o.next, output)
     }
 
     fn feed(
@@ -86,18 +87,19 @@ impl Desk {
         area: &mut [u8; MEMORY],
         kept: &mut [u8; MEMORY],
         kept_area: &mut [u8; MEMORY],
-        out: &mut [u8; SIZE],
+        output: &mut Output,
     ) -> Desk
         ensures { CallDone self number feed_name (fed_lent self fed.now room.old area.old)
-            room.old area.old out.old result room.new area.new out.new }
+            room.old area.old output.old result room.new area.new output.new }
     {
         let n = smaller(self.room, MEMORY);
         let m = smaller(self.area, MEMORY);
-        lent::keep(room, n, &mut *kept);
-        lent::keep(area, m, &mut *kept_area);
-        let record = self.record;
-        let c = lent::feed(record, fed, &mut *room, n, &mut *area, m);
-        self.called(number, b" feed ", c, n, m, kept, room, kept_area, area, out)
+        lent::keep(room, n, kept);
+        lent::keep(area, m, kept_area);
+        let c = lent::feed(self.record, fed, room, n, area, m);
+        self.called(
+            number, b" feed ", c, n, m, kept, room, kept_area, area, output,
+        )
     }
 
     fn quiet(
@@ -107,19 +109,18 @@ impl Desk {
         area: &mut [u8; MEMORY],
         kept: &mut [u8; MEMORY],
         kept_area: &mut [u8; MEMORY],
-        out: &mut [u8; SIZE],
+        output: &mut Output,
     ) -> Desk
         ensures { CallDone self number quiet_name (quieted_lent self room.old area.old)
-            room.old area.old out.old result room.new area.new out.new }
+            room.old area.old output.old result room.new area.new output.new }
     {
         let n = smaller(self.room, MEMORY);
         let m = smaller(self.area, MEMORY);
-        lent::keep(room, n, &mut *kept);
-        lent::keep(area, m, &mut *kept_area);
-        let record = self.record;
-        let c = lent::quiet(record, &mut *room, n, &mut *area, m);
+        lent::keep(room, n, kept);
+        lent::keep(area, m, kept_area);
+        let c = lent::quiet(self.record, room, n, area, m);
         self.called(
-            number, b" quiet ", c, n, m, kept, room, kept_area, area, out,
+            number, b" quiet ", c, n, m, kept, room, kept_area, area, output,
         )
     }
 
@@ -135,25 +136,23 @@ impl Desk {
         room: &[u8; MEMORY],
         kept_area: &[u8; MEMORY],
         area: &[u8; MEMORY],
-        out: &mut [u8; SIZE],
+        output: &mut Output,
     ) -> Desk
-        ensures { DeskTold self.output (with_record self c.next)
+        ensures { DeskTold output.old (with_record self c.next)
             (call_texts self number name.now c (take n kept.now) (take n room.now)
             (take m kept_area.now) (take m area.now))
-            out.old result out.new }
+            result output.new }
     {
-        let begun = answers::begun(self.output, number, name, &mut *out);
-        let line = answers::called(
-            begun,
+        answers::begun(output, number, name);
+        answers::called(
+            output,
             c,
             front(kept, n),
             front(room, n),
             front(kept_area, m),
             front(area, m),
-            &mut *out,
         );
-        let after = c.next;
-        self.with_record(line, after, out)
+        self.with_record(c.next, output)
     }
 
     fn portion(
@@ -163,54 +162,47 @@ impl Desk {
         room: &mut [u8; MEMORY],
         area: &[u8; MEMORY],
         kept: &mut [u8; MEMORY],
-        out: &mut [u8; SIZE],
+        output: &mut Output,
     ) -> Desk
         ensures { PortionDone self number (portion_lent self most room.old area.now) room.old
-            out.old result room.new out.new }
+            output.old result room.new output.new }
     {
         let n = smaller(self.room, MEMORY);
-        lent::keep(room, n, &mut *kept);
-        let record = self.record;
-        let p = lent::portion(record, most, &mut *room, n, front(area, self.area));
-        let begun = answers::begun(self.output, number, b" portion ", &mut *out);
-        let line = answers::portioned(begun, p, front(kept, n), front(room, n), &mut *out);
-        let after = p.next;
-        self.with_record(line, after, out)
+        lent::keep(room, n, kept);
+        let p = lent::portion(self.record, most, room, n, front(area, self.area));
+        answers::begun(output, number, b" portion ");
+        answers::portioned(output, p, front(kept, n), front(room, n));
+        self.with_record(p.next, output)
     }
 
     fn report(
-        mut self,
+        self,
         number: u64,
         room: &mut [u8; MEMORY],
         kept: &mut [u8; MEMORY],
-        out: &mut [u8; SIZE],
-    ) -> Desk
-        ensures desk_told { DeskTold self.output self (report_texts self number room.old) out.old result out.new }
+        output: &mut Output,
+    )
+        ensures tells { TextsAdded output.old (report_texts self number room.old) output.new }
         ensures room_after { room.new ≡ report_room self room.old }
     {
         let n = smaller(self.room, MEMORY);
-        lent::keep(room, n, &mut *kept);
-        let record = self.record;
-        let r = lent::report(record, &mut *room, n);
-        let begun = answers::begun(self.output, number, b" report ", &mut *out);
-        self.output = answers::framed(
-            begun,
-            r.outcome,
+        lent::keep(room, n, kept);
+        let r = lent::report(self.record, room, n);
+        answers::begun(output, number, b" report ");
+        answers::framed(
+            output,
+            u8::from(r.outcome),
             r.length,
             front(kept, n),
             front(room, n),
-            out,
         );
-        self
     }
 
     // Nothing is done: the record is told as it differs from the all-zero one.
-    fn show(mut self, number: u64, out: &mut [u8; SIZE]) -> Desk
-        ensures { DeskTold self.output self (show_texts self number) out.old result out.new }
+    fn show(self, number: u64, output: &mut Output)
+        ensures { TextsAdded output.old (show_texts self number) output.new }
     {
-        let record = self.record;
-        let begun = answers::begun(self.output, number, b" show", &mut *out);
-        self.output = answers::changed(begun, no_record(), record, out);
-        self
+        answers::begun(output, number, b" show");
+        answers::changed(output, no_record(), self.record);
     }
 }

@@ -4,12 +4,13 @@ ghost use Rattle.desk.specs.Runs.{fresh_run, is_passed_over, ended, LineDone, Pa
 ghost use Rattle.lines.specs.Lines.{next_line};
 
 use crate::desk::{Desk, IMAGE, MEMORY};
+use crate::telling;
 use lines::lines::{INPUT, Kind, Lines};
 use phrases::phrase;
 use phrases::phrase::BYTES;
 use sequences::part::part;
 use std::io::Stdin;
-use text::output::SIZE;
+use text::output::Output;
 
 #[derive(Clone, Copy)]
 pub struct Run {
@@ -22,11 +23,9 @@ impl Run {
     pub fn start() -> Run
         ensures { result ≡ fresh_run }
     {
-        let lines = Lines::none();
-        let desk = Desk::empty();
         Run {
-            lines,
-            desk,
+            lines: Lines::none(),
+            desk: Desk::empty(),
             is_over: false,
         }
     }
@@ -42,23 +41,23 @@ impl Run {
         image: &mut [u8; IMAGE],
         kept: &mut [u8; MEMORY],
         kept_area: &mut [u8; MEMORY],
-        out: &mut [u8; SIZE],
+        output: &mut Output,
     ) -> Run
         ensures { SessionTurned (next_line self.lines input.old).kind (next_line self.lines input.old) self
-            input.old bytes.old room.old area.old image.old out.old result
-            input.new bytes.new room.new area.new image.new out.new }
+            input.old bytes.old room.old area.old image.old output.old result
+            input.new bytes.new room.new area.new image.new output.new }
     {
-        let lines = self.lines;
-        let next = lines.next(input);
-        let kind = next.kind;
+        let next = self.lines.next(input);
         let after = next.lines;
-        match kind {
-            Kind::Line => {
-                let line = part(input, next.from, next.length);
-                self.obey(after, line, bytes, room, area, image, kept, kept_area, out)
+        match next.kind {
+            Kind::Line { from, length } => {
+                let line = part(input, from, length);
+                self.obey(
+                    after, line, bytes, room, area, image, kept, kept_area, output,
+                )
             }
-            Kind::TooLong => self.pass(after, out),
-            Kind::Unfinished => self.read(stdin, after, input, out),
+            Kind::TooLong => self.pass(after, output),
+            Kind::Unfinished => self.read(stdin, after, input, output),
             Kind::None => self.end(after),
         }
     }
@@ -74,19 +73,18 @@ impl Run {
         image: &mut [u8; IMAGE],
         kept: &mut [u8; MEMORY],
         kept_area: &mut [u8; MEMORY],
-        out: &mut [u8; SIZE],
+        output: &mut Output,
     ) -> Run
         ensures { LineDone (is_passed_over line.now) self «lines» line.now bytes.old room.old
-            area.old image.old out.old result bytes.new room.new area.new
-            image.new out.new }
+            area.old image.old output.old result bytes.new room.new area.new
+            image.new output.new }
     {
         self.lines = lines;
         if is_passed_over(line) {
             return self;
         }
-        let phrase = phrase::read(line, &mut *bytes);
-        let desk = self.desk;
-        self.desk = desk.obey(
+        let phrase = phrase::read(line, bytes);
+        self.desk = self.desk.obey(
             lines.number,
             phrase,
             bytes,
@@ -95,34 +93,36 @@ impl Run {
             image,
             kept,
             kept_area,
-            out,
+            output,
         );
         self
     }
 
-    fn pass(mut self, lines: Lines, out: &mut [u8; SIZE]) -> Run
-        ensures { PassedTooLong self «lines» out.old result out.new }
+    fn pass(mut self, lines: Lines, output: &mut Output) -> Run
+        ensures { PassedTooLong self «lines» output.old result output.new }
     {
-        let desk = self.desk;
+        telling::line(output, lines.number, b" bad a line has at most 65535 bytes");
         self.lines = lines;
-        self.desk = desk.line(lines.number, b" bad a line has at most 65535 bytes", out);
         self
     }
 
     // The lines go out first: a read may wait long, and who reads them should not wait with it. A failed read ends the session; what of a
     // line has come by then is no line.
-    fn read(mut self, stdin: Stdin, lines: Lines, input: &mut [u8; INPUT], out: &[u8; SIZE]) -> Run
-        ensures { InputRead self «lines» input.old result input.new }
+    fn read(
+        mut self,
+        stdin: Stdin,
+        lines: Lines,
+        input: &mut [u8; INPUT],
+        output: &mut Output,
+    ) -> Run
+        ensures { InputRead self «lines» input.old output.old result input.new output.new }
     {
-        let old = self.desk;
-        let desk = old.flushed(out);
-        self.desk = desk;
-        if desk.output.failed {
+        output.flush();
+        if output.failed {
             return self.end(lines);
         }
-        let after = lines.read(stdin, input);
-        self.lines = after;
-        self.is_over = after.failed;
+        self.lines = lines.read(stdin, input);
+        self.is_over = self.lines.failed;
         self
     }
 
@@ -139,11 +139,5 @@ impl Run {
 fn is_passed_over(line: &[u8]) -> bool
     ensures { result ≡ is_passed_over line.now }
 {
-    if line.len() == 0 {
-        return true;
-    }
-    if line[0] == b'#' {
-        return true;
-    }
-    false
+    line.len() == 0 || line[0] == b'#'
 }

@@ -1,5 +1,6 @@
 // The calls of the sender.
 ghost use Rattle.std.specs.Prelude.{◌≡◌, length};
+ghost use Rattle.text.specs.Outputs.{TextsAdded};
 ghost use Rattle.desk.specs.Telling.{DeskTold};
 ghost use Rattle.desk.specs.Obeying.{SentDone};
 ghost use Rattle.desk.specs.Effects.{reply_name, silence_name, sender_open_desk, sender_open_texts, request_texts, request_room, Decides};
@@ -15,7 +16,7 @@ use phrases::table;
 use sender::sender::Sender;
 use sequences::bounds::smaller;
 use sequences::part::front;
-use text::output::SIZE;
+use text::output::Output;
 
 impl Desk {
     pub(crate) fn call_sender(
@@ -26,26 +27,28 @@ impl Desk {
         room: &mut [u8; MEMORY],
         image: &[u8; IMAGE],
         kept: &mut [u8; MEMORY],
-        out: &mut [u8; SIZE],
+        output: &mut Output,
     ) -> Desk
-        ensures { SentDone self number phrase bytes.now room.old image.now out.old result
-            room.new out.new }
+        ensures { SentDone self number phrase bytes.now room.old image.now output.old result
+            room.new output.new }
     {
         let lent = front(image, self.image);
-        if phrase.command == table::SENDER_OPEN {
-            return self.open_sender(number, phrase.first, bytes, lent, out);
+        match phrase.command {
+            table::SENDER_OPEN => self.open_sender(number, phrase.first, bytes, lent, output),
+            table::SENDER_REQUEST => {
+                self.request(number, lent, room, kept, output);
+                self
+            }
+            table::SENDER_REPLY => {
+                let reply = front(bytes, phrase.count);
+                self.reply(number, reply, lent, output)
+            }
+            table::SENDER_SILENCE => self.silence(number, lent, output),
+            _ => {
+                self.show_sender(number, output);
+                self
+            }
         }
-        if phrase.command == table::SENDER_REQUEST {
-            return self.request(number, lent, room, kept, out);
-        }
-        if phrase.command == table::SENDER_REPLY {
-            let reply = front(bytes, phrase.count);
-            return self.reply(number, reply, lent, out);
-        }
-        if phrase.command == table::SENDER_SILENCE {
-            return self.silence(number, lent, out);
-        }
-        self.show_sender(number, out)
     }
 
     fn open_sender(
@@ -54,80 +57,73 @@ impl Desk {
         size: usize,
         bytes: &[u8; BYTES],
         image: &[u8],
-        out: &mut [u8; SIZE],
+        output: &mut Output,
     ) -> Desk
-        ensures { DeskTold self.output (sender_open_desk self size bytes.now (length image.now))
-            (sender_open_texts self number size bytes.now (length image.now)) out.old result out.new }
+        ensures { DeskTold output.old (sender_open_desk self size bytes.now (length image.now))
+            (sender_open_texts self number size bytes.now (length image.now)) result output.new }
     {
         let offer = offer::said(size, bytes, image.len());
-        let pid = offer.pid;
-        let version = offer.version;
-        let md5 = offer.md5;
-        let o = Sender::open(offer.channel, pid, version, md5, offer.size, image);
-        let begun = answers::begun(self.output, number, b" sender open ", &mut *out);
-        let line = begun.decimal(o.outcome as u64, &mut *out);
-        let after = o.sender;
-        self.with_sender(line, after, out)
+        let o = Sender::open(
+            offer.channel,
+            offer.pid,
+            offer.version,
+            offer.md5,
+            offer.size,
+            image,
+        );
+        answers::begun(output, number, b" sender open ");
+        output.decimal(u8::from(o.outcome) as u64);
+        self.with_sender(o.sender, output)
     }
 
     fn request(
-        mut self,
+        self,
         number: u64,
         image: &[u8],
         room: &mut [u8; MEMORY],
         kept: &mut [u8; MEMORY],
-        out: &mut [u8; SIZE],
-    ) -> Desk
-        ensures desk_told { DeskTold self.output self (request_texts self number image.now room.old) out.old result
-            out.new }
+        output: &mut Output,
+    )
+        ensures tells { TextsAdded output.old (request_texts self number image.now room.old) output.new }
         ensures room_after { room.new ≡ request_room self image.now room.old }
     {
         let n = smaller(self.room, MEMORY);
-        lent::keep(room, n, &mut *kept);
-        let sender = self.sender;
-        let r = lent::request(sender, image, &mut *room, n);
-        let begun = answers::begun(self.output, number, b" sender request ", &mut *out);
-        self.output = answers::framed(
-            begun,
-            r.outcome,
+        lent::keep(room, n, kept);
+        let r = lent::request(self.sender, image, room, n);
+        answers::begun(output, number, b" sender request ");
+        answers::framed(
+            output,
+            u8::from(r.outcome),
             r.length,
             front(kept, n),
             front(room, n),
-            out,
         );
-        self
     }
 
-    fn reply(self, number: u64, reply: &[u8], image: &[u8], out: &mut [u8; SIZE]) -> Desk
-        ensures { Decides self number reply_name (after_reply self.sender image.now reply.now) out.old
-            result out.new }
+    fn reply(self, number: u64, reply: &[u8], image: &[u8], output: &mut Output) -> Desk
+        ensures { Decides self number reply_name (after_reply self.sender image.now reply.now) output.old
+            result output.new }
     {
-        let sender = self.sender;
-        let d = sender.reply(image, reply);
-        let begun = answers::begun(self.output, number, b" sender reply ", &mut *out);
-        let line = answers::decided(begun, d, &mut *out);
-        let after = d.next;
-        self.with_sender(line, after, out)
+        let d = self.sender.reply(image, reply);
+        answers::begun(output, number, b" sender reply ");
+        answers::decided(output, d);
+        self.with_sender(d.next, output)
     }
 
-    fn silence(self, number: u64, image: &[u8], out: &mut [u8; SIZE]) -> Desk
-        ensures { Decides self number silence_name (after_silence self.sender (length image.now)) out.old
-            result out.new }
+    fn silence(self, number: u64, image: &[u8], output: &mut Output) -> Desk
+        ensures { Decides self number silence_name (after_silence self.sender (length image.now)) output.old
+            result output.new }
     {
-        let sender = self.sender;
-        let d = sender.silence(image);
-        let begun = answers::begun(self.output, number, b" sender silence ", &mut *out);
-        let line = answers::decided(begun, d, &mut *out);
-        let after = d.next;
-        self.with_sender(line, after, out)
+        let d = self.sender.silence(image);
+        answers::begun(output, number, b" sender silence ");
+        answers::decided(output, d);
+        self.with_sender(d.next, output)
     }
 
-    fn show_sender(mut self, number: u64, out: &mut [u8; SIZE]) -> Desk
-        ensures { DeskTold self.output self (sender_show_texts self number) out.old result out.new }
+    fn show_sender(self, number: u64, output: &mut Output)
+        ensures { TextsAdded output.old (sender_show_texts self number) output.new }
     {
-        let sender = self.sender;
-        let begun = answers::begun(self.output, number, b" sender show", &mut *out);
-        self.output = answers::sender_changed(begun, Sender::none(), sender, out);
-        self
+        answers::begun(output, number, b" sender show");
+        answers::sender_changed(output, Sender::none(), self.sender);
     }
 }

@@ -20,13 +20,12 @@ use Rattle.dialogue.specs.declared.run.Run.{Run}
 use Rattle.dialogue.specs.Dialogues.{Dialogue, Turn, TurnMade, carrying, preceded, with_sender}
 use Rattle.dialogue.specs.Turns.{then_sent, by_decision, after_decision}
 
-module _ {o : Output} {buffer : List ℕ} {r : Run} {memory area after : List ℕ} where
-  pub made_as : {t u : Turn} → t ≡ u → TurnMade t o buffer r memory area after → TurnMade u o buffer r memory area after
-  made_as e s = subst (λ (t : Turn). TurnMade t o buffer r memory area after) e s
+module _ {o : Output} {r : Run} {memory area : List ℕ} {after : Output} where
+  pub made_as : {t u : Turn} → t ≡ u → TurnMade t o r memory area after → TurnMade u o r memory area after
+  made_as e s = subst (λ (t : Turn). TurnMade t o r memory area after) e s
 
-  pub made_told : {m : Output} {between : List ℕ} {texts : List (List ℕ)} {t : Turn}
-      → TextsAdded o texts buffer m between → TurnMade t m between r memory area after
-      → TurnMade (preceded texts t) o buffer r memory area after
+  pub made_told : {m : Output} {texts : List (List ℕ)} {t : Turn}
+      → TextsAdded o texts m → TurnMade t m r memory area after → TurnMade (preceded texts t) o r memory area after
   made_told a s =
       record {
         sender = s.sender;
@@ -39,21 +38,21 @@ module _ {o : Output} {buffer : List ℕ} {r : Run} {memory area after : List �
   -- only the carrier has changed
   pub made-carrying : (x : Dialogue) {k : Carried}
       → r.sender ≡ x.sender → r.record ≡ x.controller → area ≡ x.area → r.is_ended ≡ x.ended
-      → CarriesOn k o buffer r.carrier memory after → TurnMade (carrying x k) o buffer r memory area after
+      → CarriesOn k o r.carrier memory after → TurnMade (carrying x k) o r memory area after
   made-carrying x s c a e k = record { sender = s; controller = c; leaves-area = a; carries = k; ends = e }
 
   -- what follows from a decision
   pub made_by : (d : Decided) (k : Decision) (x : Dialogue) (image letters : List ℕ) → d.decision ≡ k
-      → TurnMade (by_decision k (with_sender x d.next) image letters) o buffer r memory area after
-      → TurnMade (after_decision d x image letters) o buffer r memory area after
+      → TurnMade (by_decision k (with_sender x d.next) image letters) o r memory area after
+      → TurnMade (after_decision d x image letters) o r memory area after
   unfolding after_decision
   made_by d k x image letters e s = made_as (ap (λ (j : Decision). by_decision j (with_sender x d.next) image letters) (sym e)) s
 
 -- a frame is sending by a carrier that has carried on
-pub carries-then : {k : Carried} {o : Output} {buffer between memory memory' after : List ℕ} {m r : Carrier} (f : Frame) (letters : List ℕ)
-    → CarriesOn k o buffer m memory between → CarriesOn (sending m.link m.script memory f letters) m.output between r memory' after
-    → CarriesOn (then_sent k f letters) o buffer r memory' after
-carries-then {k} {o} {buffer} {between} {memory} {memory'} {after} {m} {r} f letters a b =
+pub carries-then : {k : Carried} {o between after : Output} {memory memory' : List ℕ} {m r : Carrier} (f : Frame) (letters : List ℕ)
+    → CarriesOn k o m memory between → CarriesOn (sending m.link m.script memory f letters) between r memory' after
+    → CarriesOn (then_sent k f letters) o r memory' after
+carries-then {k = k} {memory = memory} {m = m} f letters a b =
     let same = ap₂ (λ (l : Link) (s : Script). sending l s memory f letters) a.links a.leaves
     ∙ ap (λ (y : List ℕ). sending k.link k.script y f letters) a.holds in
     carries-told a.tells (carries_as same b)

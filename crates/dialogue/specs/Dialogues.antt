@@ -121,13 +121,13 @@ ending x =
     }
 
 -- the contract: run, area and memory are the definition's, and its texts stand behind those that waited
-pub record TurnMade (t : Turn) (o : Output) (buffer : List ℕ) (r : Run) (memory area after : List ℕ) : Type 0 where
+pub record TurnMade (t : Turn) (o : Output) (r : Run) (memory area : List ℕ) (after : Output) : Type 0 where
   pub sender : r.sender ≡ t.sender
   pub controller : r.record ≡ t.controller
   pub leaves-area : area ≡ t.area
-  pub carries : CarriesOn t.carried o buffer r.carrier memory after
+  pub carries : CarriesOn t.carried o r.carrier memory after
   pub ends : r.is_ended ≡ t.ended
 
 -- "turns, until the sender says done or given up"; a failed write ends them too
-abbrev pub is_over : Run → Bool
-is_over run = run.carrier.output.failed || run.is_ended
+abbrev pub is_over : Run → Output → Bool
+is_over run output = output.failed || run.is_ended

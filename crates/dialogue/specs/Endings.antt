@@ -30,7 +30,7 @@ end_texts x image =
     ++ (controller_texts x.controller (length image) ++ area_end_texts (begins_with x.area image)))
 
 -- these texts are put behind those that waited, and none waits any more
-pub record EndingTold (texts : List (List ℕ)) (o : Output) (buffer : List ℕ) (r : Output) (after : List ℕ) : Type 0 where
+pub record EndingTold (texts : List (List ℕ)) (o : Output) (r : Output) : Type 0 where
   pub all : Output
-  pub tells : TextsAdded o texts buffer all after
+  pub tells : TextsAdded o texts all
   pub flushes : Flushed all r

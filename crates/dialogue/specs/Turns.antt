@@ -1,6 +1,7 @@
 -- docs/EXCHANGE.md, "The link": what a turn does, step by step in its words. The letters are the script's. Assumes nothing.
 use Rattle.std.specs.Prelude.{cond, List, [], ℕ, eqb, length, take}
 use Rattle.sequences.specs.Comparing.{begins_with}
+use Rattle.commands.specs.Outcomes.{outcome_number}
 use Rattle.bench.specs.Calls.{fresh_room, most_read}
 use Rattle.session.specs.Transfers.{own_transfer}
 use Rattle.controller.specs.declared.call.Called.{Called}
@@ -15,10 +16,12 @@ use Rattle.sender.specs.declared.decision.Decided.{Decided}
 use Rattle.sender.specs.Replies.{after_reply}
 use Rattle.sender.specs.Silences.{after_silence}
 use Rattle.link.specs.declared.frame.Frame.{Frame}
+use Rattle.link.specs.declared.frame.Way.{Way}
+use Rattle.link.specs.declared.frame.Way.TheVariants.{ToController, ToSender}
 use Rattle.link.specs.declared.link.Link.{Link}
 use Rattle.link.specs.declared.script.Script.{Script}
 use Rattle.link.specs.Links.{frame_under_way, passed}
-use Rattle.link.specs.Scripts.{silence, letter_of, used_up}
+use Rattle.link.specs.Scripts.{is_silence, letter_of, used_up}
 use Rattle.ends.specs.Ends.{frame_bytes, request_sent, reply_sent}
 use Rattle.transcript.specs.Words.{dropped}
 use Rattle.transcript.specs.Lines.{at_controller_texts, at_sender_texts, silence_texts, stored_texts}
@@ -59,13 +62,13 @@ after_decision d x image letters = by_decision d.decision (with_sender x d.next)
 abbrev pub silence_told : Dialogue → List ℕ → List ℕ → Turn
 silence_told x image letters =
     let d = after_silence x.sender (length image) in
-    preceded (silence_texts d.outcome d.decision) (after_decision d x image letters)
+    preceded (silence_texts (outcome_number d.outcome) d.decision) (after_decision d x image letters)
 
 -- "Arriving at the sender: the reply call"
 abbrev pub at_sender : Dialogue → Frame → List ℕ → List ℕ → Turn
 at_sender x f image letters =
     let d = after_reply x.sender image (frame_bytes f) in
-    preceded (at_sender_texts f d.outcome d.decision) (after_decision d x image letters)
+    preceded (at_sender_texts f (outcome_number d.outcome) d.decision) (after_decision d x image letters)
 
 -- ---- what the controller does
 
@@ -93,7 +96,7 @@ after_call x next area room n image letters =
 -- "The line of an arrival comes first, then the `stored` line, then whatever the sending that follows from it prints"
 abbrev pub after_fed : Dialogue → Frame → Called → List ℕ → List ℕ → List ℕ → List ℕ → Turn
 after_fed x f c room area image letters =
-    preceded (at_controller_texts f c.outcome) (after_call x c.next area room c.reply_length image letters)
+    preceded (at_controller_texts f (outcome_number c.outcome)) (after_call x c.next area room c.reply_length image letters)
 
 -- "Arriving at the controller: the frame's bytes are fed in one call ..; if there is a reply it is sent."
 abbrev pub at_controller : Dialogue → Frame → List ℕ → List ℕ → Turn
@@ -113,17 +116,20 @@ check_portion x image letters =
 
 -- ---- the turn
 
+abbrev pub by_way : Way → Dialogue → Frame → List ℕ → List ℕ → Turn
+by_way ToController x f image letters = at_controller x f image letters
+by_way ToSender x f image letters = at_sender x f image letters
+
 -- "the oldest frame under way arrives at its end"
 unfoldable pub arrived : Dialogue → List ℕ → List ℕ → Turn
 arrived x image letters =
     let f = frame_under_way x.link x.memory 0 in
-    let rest = with_link x (passed x.link) in
-    cond f.to_sender (at_sender rest f image letters) (at_controller rest f image letters)
+    by_way f.way (with_link x (passed x.link)) f image letters
 
 -- the four steps: "If the controller's end check runs ..", "Otherwise, if the script's next letter is `s`, it is used up and silence is
 -- told to the sender", "Otherwise, if nothing is under way, silence is told to the sender", "Otherwise the oldest frame .."
 unfoldable pub turn_of : Dialogue → List ℕ → List ℕ → Turn
 turn_of x image letters =
     cond (is_checking x.controller) (check_portion x image letters)
-    (cond (eqb (letter_of x.script letters) silence) (silence_told (with_script x (used_up x.script)) image letters)
+    (cond (is_silence (letter_of x.script letters)) (silence_told (with_script x (used_up x.script)) image letters)
     (cond (eqb x.link.count 0) (silence_told x image letters) (arrived x image letters)))

@@ -5,7 +5,7 @@ ghost use Rattle.dialogue.specs.Turns.{answering};
 use carrier::carrier::Carrier;
 use controller::call::MIN_ROOM;
 use link::link::MEMORY;
-use text::output::SIZE;
+use text::output::Output;
 
 // It is sent, if there is one: the first `length` bytes of the room.
 pub(crate) fn answer(
@@ -14,13 +14,13 @@ pub(crate) fn answer(
     length: usize,
     letters: &[u8],
     memory: &mut [u8; MEMORY],
-    out: &mut [u8; SIZE],
+    output: &mut Output,
 ) -> Carrier
     ensures { CarriesOn (answering carrier.link carrier.script memory.old room length letters.now)
-        carrier.output out.old result memory.new out.new }
+        output.old result memory.new output.new }
 {
     if length == 0 {
         return carrier;
     }
-    carrier.send(ends::reply(room, length), letters, memory, out)
+    carrier.send(ends::reply(room, length), letters, memory, output)
 }

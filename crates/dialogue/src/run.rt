@@ -1,5 +1,6 @@
 // The run, turn by turn: what both ends and the link between them do.
 ghost use Rattle.std.specs.Prelude.{◌≡◌, List, ℕ, length};
+ghost use Rattle.link.specs.Scripts.{is_silence, letter_of};
 ghost use Rattle.dialogue.specs.Dialogues.{dialogue_of, TurnMade, is_over};
 ghost use Rattle.dialogue.specs.Starts.{Started};
 ghost use Rattle.dialogue.specs.Turns.{request_turn, after_decision, silence_told, at_sender, at_controller, check_portion, turn_of};
@@ -11,15 +12,14 @@ use bench::AREA;
 use carrier::carrier::Carrier;
 use controller::call::MIN_ROOM;
 use controller::record::Record;
-use link::frame::Frame;
+use link::frame::{Frame, Way};
 use link::link::MEMORY;
-use link::script;
-use link::script::Script;
+use link::script::{Letter, Script};
 use sender::decision::{Decided, Decision};
 use sender::phase::Phase;
 use sender::sender::Sender;
 use sequences::part::begins;
-use text::output::{Output, SIZE};
+use text::output::Output;
 
 // What is kept from turn to turn.
 #[derive(Clone, Copy)]
@@ -47,13 +47,10 @@ impl Run {
     }
 
     // A failed write ends the run too.
-    pub fn is_over(self) -> bool
-        ensures { result ≡ is_over self }
+    pub fn is_over(self, output: &Output) -> bool
+        ensures { result ≡ is_over self output.now }
     {
-        if self.carrier.output.failed {
-            return true;
-        }
-        self.is_ended
+        output.failed || self.is_ended
     }
 
     // The sender's request is sent. The area is not lent, so whatever stands in it stays.
@@ -62,15 +59,14 @@ impl Run {
         image: &[u8],
         letters: &[u8],
         memory: &mut [u8; MEMORY],
-        out: &mut [u8; SIZE],
+        output: &mut Output,
     ) -> Run
         ensures { (area : List ℕ)
             → TurnMade (request_turn (dialogue_of self memory.old area) image.now letters.now)
-            self.carrier.output out.old result memory.new area out.new }
+            output.old result memory.new area output.new }
     {
-        let sender = self.sender;
-        let carrier = self.carrier;
-        self.carrier = carrier.send(ends::request(sender, image), letters, memory, out);
+        let request = ends::request(self.sender, image);
+        self.carrier = self.carrier.send(request, letters, memory, output);
         self
     }
 
@@ -81,110 +77,78 @@ impl Run {
         letters: &[u8],
         memory: &mut [u8; MEMORY],
         area: &mut [u8; AREA],
-        out: &mut [u8; SIZE],
+        output: &mut Output,
     ) -> Run
         ensures { TurnMade
             (turn_of (dialogue_of self memory.old area.old) image.now letters.now)
-            self.carrier.output out.old result memory.new area.new out.new }
+            output.old result memory.new area.new output.new }
     {
-        let record = self.record;
-        if record.is_checking() {
-            return self.check(image, letters, memory, area, out);
+        if self.record.is_checking() {
+            return self.check(image, letters, memory, area, output);
         }
-        let mut carrier = self.carrier;
-        let script = carrier.script;
-        if script.next(letters) == script::SILENCE {
-            carrier.script = script.after();
-            self.carrier = carrier;
-            return self.silence(image, letters, memory, out);
+        if self.is_silent(letters) {
+            self.carrier.script = self.carrier.script.after();
+            return self.silence(image, letters, memory, output);
         }
-        let link = carrier.link;
-        if link.count == 0 {
-            return self.silence(image, letters, memory, out);
+        if self.carrier.link.count == 0 {
+            return self.silence(image, letters, memory, output);
         }
-        let frame = link.oldest(memory);
-        carrier.link = link.without_oldest();
-        self.carrier = carrier;
-        if frame.to_sender {
-            return self.at_sender(frame, image, letters, memory, out);
+        let frame = self.carrier.link.oldest(memory);
+        self.carrier.link = self.carrier.link.without_oldest();
+        match frame.way {
+            Way::ToController => self.at_controller(frame, image, letters, memory, area, output),
+            Way::ToSender => self.at_sender(frame, image, letters, memory, output),
         }
-        self.at_controller(frame, image, letters, memory, area, out)
     }
 
     // What is left to say once the run is over.
-    pub fn end(
-        self,
-        image: &[u8],
-        memory: &[u8; MEMORY],
-        area: &[u8; AREA],
-        out: &mut [u8; SIZE],
-    ) -> Output
-        ensures { EndingTold (end_texts (dialogue_of self memory.now area.now) image.now)
-            self.carrier.output out.old result out.new }
+    pub fn end(self, image: &[u8], memory: &[u8; MEMORY], area: &[u8; AREA], output: &mut Output)
+        ensures { EndingTold (end_texts (dialogue_of self memory.now area.now) image.now) output.old output.new }
     {
-        let carrier = self.carrier.cleared(b"left", memory, &mut *out);
-        let session = self.record.session;
-        let transfer = session.transfer;
-        let leg = transfer.leg;
-        let phase = leg.phase;
-        let all: &[u8] = area;
-        let sender = transcript::sender_end(carrier.output, self.is_done(), &mut *out);
-        let n = image.len();
-        let controller = transcript::controller_end(
-            sender,
-            phase,
+        self.carrier.cleared(b"left", memory, output);
+        let transfer = self.record.session.transfer;
+        transcript::sender_end(output, self.is_done());
+        transcript::controller_end(
+            output,
+            transfer.leg.phase,
             transfer.progress.stored,
-            n,
-            &mut *out,
+            image.len(),
         );
-        transcript::area_end(controller, begins(all, image), &mut *out).flush(out)
+        transcript::area_end(output, begins(area, image));
+        output.flush();
     }
 
     fn silence(
-        mut self,
+        self,
         image: &[u8],
         letters: &[u8],
         memory: &mut [u8; MEMORY],
-        out: &mut [u8; SIZE],
+        output: &mut Output,
     ) -> Run
         ensures { (area : List ℕ)
             → TurnMade (silence_told (dialogue_of self memory.old area) image.now letters.now)
-            self.carrier.output out.old result memory.new area out.new }
+            output.old result memory.new area output.new }
     {
-        let sender = self.sender;
-        let d = sender.silence(image);
-        let decision = d.decision;
-        let mut carrier = self.carrier;
-        carrier.output = transcript::silence(carrier.output, d.outcome, decision, &mut *out);
-        self.carrier = carrier;
-        self.decided(d, image, letters, memory, out)
+        let d = self.sender.silence(image);
+        transcript::silence(output, u8::from(d.outcome), d.decision);
+        self.decided(d, image, letters, memory, output)
     }
 
     fn at_sender(
-        mut self,
+        self,
         frame: Frame,
         image: &[u8],
         letters: &[u8],
         memory: &mut [u8; MEMORY],
-        out: &mut [u8; SIZE],
+        output: &mut Output,
     ) -> Run
         ensures { (area : List ℕ)
             → TurnMade (at_sender (dialogue_of self memory.old area) frame image.now letters.now)
-            self.carrier.output out.old result memory.new area out.new }
+            output.old result memory.new area output.new }
     {
-        let sender = self.sender;
-        let d = ends::hear(sender, frame, image);
-        let decision = d.decision;
-        let mut carrier = self.carrier;
-        carrier.output = transcript::at_sender(
-            carrier.output,
-            frame,
-            d.outcome,
-            decision,
-            &mut *out,
-        );
-        self.carrier = carrier;
-        self.decided(d, image, letters, memory, out)
+        let d = ends::hear(self.sender, frame, image);
+        transcript::at_sender(output, frame, u8::from(d.outcome), d.decision);
+        self.decided(d, image, letters, memory, output)
     }
 
     // What the sender's decision does. With a new leg, what is under way is dropped before the request is sent.
@@ -194,29 +158,21 @@ impl Run {
         image: &[u8],
         letters: &[u8],
         memory: &mut [u8; MEMORY],
-        out: &mut [u8; SIZE],
+        output: &mut Output,
     ) -> Run
         ensures { (area : List ℕ)
             → TurnMade (after_decision d (dialogue_of self memory.old area) image.now letters.now)
-            self.carrier.output out.old result memory.new area out.new }
+            output.old result memory.new area output.new }
     {
-        let next = d.next;
-        self.sender = next;
-        let decision = d.decision;
-        match decision {
+        self.sender = d.next;
+        match d.decision {
             Decision::Nothing => self,
-            Decision::GoOn => self.request(image, letters, memory, out),
-            Decision::SendAgain => self.request(image, letters, memory, out),
+            Decision::GoOn | Decision::SendAgain => self.request(image, letters, memory, output),
             Decision::NewLeg => {
-                let carrier = self.carrier;
-                self.carrier = carrier.cleared(b"dropped", memory, &mut *out);
-                self.request(image, letters, memory, out)
+                self.carrier = self.carrier.cleared(b"dropped", memory, output);
+                self.request(image, letters, memory, output)
             }
-            Decision::Done => {
-                self.is_ended = true;
-                self
-            }
-            Decision::GivenUp => {
+            Decision::Done | Decision::GivenUp => {
                 self.is_ended = true;
                 self
             }
@@ -230,21 +186,18 @@ impl Run {
         letters: &[u8],
         memory: &mut [u8; MEMORY],
         area: &mut [u8; AREA],
-        out: &mut [u8; SIZE],
+        output: &mut Output,
     ) -> Run
         ensures { TurnMade
             (at_controller (dialogue_of self memory.old area.old) frame image.now letters.now)
-            self.carrier.output out.old result memory.new area.new out.new }
+            output.old result memory.new area.new output.new }
     {
         let mut room = [0u8; MIN_ROOM];
-        let record = self.record;
-        let c = ends::feed(record, frame, &mut room, &mut *area);
-        let next = c.next;
-        let mut carrier = self.carrier;
-        let told = transcript::at_controller(carrier.output, frame, c.outcome, &mut *out);
-        carrier.output = stored::tell(told, record, next, image, area, &mut *out);
-        self.record = next;
-        self.carrier = answer(carrier, room, c.reply_length, letters, memory, out);
+        let c = ends::feed(self.record, frame, &mut room, &mut *area);
+        transcript::at_controller(output, frame, u8::from(c.outcome));
+        stored::tell(output, self.record, c.next, image, area);
+        self.record = c.next;
+        self.carrier = answer(self.carrier, room, c.reply_length, letters, memory, output);
         self
     }
 
@@ -255,37 +208,30 @@ impl Run {
         letters: &[u8],
         memory: &mut [u8; MEMORY],
         area: &[u8; AREA],
-        out: &mut [u8; SIZE],
+        output: &mut Output,
     ) -> Run
         ensures { TurnMade
             (check_portion (dialogue_of self memory.old area.now) image.now letters.now)
-            self.carrier.output out.old result memory.new area.now out.new }
+            output.old result memory.new area.now output.new }
     {
         let mut room = [0u8; MIN_ROOM];
-        let record = self.record;
-        let p = ends::check(record, &mut room, area);
-        let next = p.next;
-        let mut carrier = self.carrier;
-        carrier.output = stored::tell(carrier.output, record, next, image, area, &mut *out);
-        self.record = next;
-        self.carrier = answer(carrier, room, p.reply_length, letters, memory, out);
+        let p = ends::check(self.record, &mut room, area);
+        stored::tell(output, self.record, p.next, image, area);
+        self.record = p.next;
+        self.carrier = answer(self.carrier, room, p.reply_length, letters, memory, output);
         self
+    }
+
+    // The script's next letter tells silence.
+    fn is_silent(self, letters: &[u8]) -> bool
+        ensures { result ≡ is_silence (letter_of self.carrier.script letters.now) }
+    {
+        self.carrier.script.next(letters) == Some(Letter::Silence)
     }
 
     fn is_done(self) -> bool
         ensures { result ≡ is_done self.sender.position.phase }
     {
-        let sender = self.sender;
-        let position = sender.position;
-        let phase = position.phase;
-        match phase {
-            Phase::Asking => false,
-            Phase::Telling => false,
-            Phase::Placing => false,
-            Phase::Sending => false,
-            Phase::Ending => false,
-            Phase::Done => true,
-            Phase::GivenUp => false,
-        }
+        matches!(self.sender.position.phase, Phase::Done)
     }
 }

@@ -6,27 +6,23 @@ ghost use Rattle.dialogue.specs.Turns.{stored_length, stored_change};
 use bench::AREA;
 use controller::record::Record;
 use sequences::part::{begins, front};
-use text::output::{Output, SIZE};
+use text::output::Output;
 
 // A stored length that a call has changed gets a line.
 pub(crate) fn tell(
-    output: Output,
+    output: &mut Output,
     before: Record,
     next: Record,
     image: &[u8],
     area: &[u8; AREA],
-    out: &mut [u8; SIZE],
-) -> Output
-    ensures { TextsAdded output (stored_change before next image.now area.now) out.old result
-        out.new }
+)
+    ensures { TextsAdded output.old (stored_change before next image.now area.now) output.new }
 {
     let n = length(next);
-    if n == length(before) {
-        return output;
+    if n != length(before) {
+        let is_same = begins(image, front(area, n));
+        transcript::stored(output, n, image.len(), is_same);
     }
-    let all: &[u8] = area;
-    let is_same = begins(image, front(all, n));
-    transcript::stored(output, n, image.len(), is_same, out)
 }
 
 pub(crate) fn length(record: Record) -> usize

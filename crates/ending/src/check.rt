@@ -1,5 +1,5 @@
 // The end check that FE starts, portion by portion.
-ghost use Rattle.std.specs.Prelude.{◌≡◌};
+ghost use Rattle.std.specs.Prelude.{◌≡◌, true, false};
 ghost use Rattle.ending.specs.FE.{ended_fe};
 ghost use Rattle.ending.specs.Portions.{step_by, check_step};
 
@@ -19,17 +19,15 @@ pub struct CheckStep {
 }
 
 // Reads at most `most` bytes on. With the last one comes the verdict.
+#[tactic(auto, unfolding(crate::specs::Portions::check_step))]
 pub fn portion(t: Transfer, most: usize, area: &[u8]) -> CheckStep
     ensures { result ≡ check_step t most area.now }
 {
-    let check = t.check;
-    let p = check.portion(most, t.image.announced, t.image.crc, area);
-    let verdict = p.verdict;
-    let step = step_by(t, verdict, p.check);
+    let p = t.check.portion(most, t.image.announced, t.image.crc, area);
     CheckStep {
         count: p.count,
-        verdict,
-        step,
+        verdict: p.verdict,
+        step: step_by(t, p.verdict, p.check),
     }
 }
 
@@ -38,20 +36,27 @@ fn step_by(t: Transfer, verdict: Verdict, check: Check) -> Step
 {
     match verdict {
         Verdict::Unfinished => Step::noted(t.with_check(check)),
-        Verdict::Right => ended(t, true),
-        Verdict::Wrong => ended(t, false),
+        Verdict::Right => accepted(t),
+        Verdict::Wrong => refused(t),
     }
 }
 
-// FE's changes and reply. Nothing is left of the check.
-fn ended(t: Transfer, is_right: bool) -> Step
-    ensures { result ≡ ended_fe t is_right }
+// FE's changes and reply, where the CRC-32 is the announced one. Nothing is left of the check.
+#[tactic(auto, unfolding(crate::specs::FE::ended_fe))]
+fn accepted(t: Transfer) -> Step
+    ensures { result ≡ ended_fe t true }
 {
-    let unchecked = t.with_check(Check::none());
-    if is_right {
-        let next = unchecked.with_phase(Phase::Done);
-        return Step::replied(next, reply::state(t.leg.channel, state::GRANTED));
-    }
-    let next = unchecked.replaced(Phase::Idle, Identity::none());
+    let next = t.with_check(Check::none()).with_phase(Phase::Done);
+    Step::replied(next, reply::state(t.leg.channel, state::GRANTED))
+}
+
+// The same, where it is another: nothing of the image is stored any more.
+#[tactic(auto, unfolding(crate::specs::FE::ended_fe))]
+fn refused(t: Transfer) -> Step
+    ensures { result ≡ ended_fe t false }
+{
+    let next = t
+        .with_check(Check::none())
+        .replaced(Phase::Idle, Identity::none());
     Step::replied(next, reply::state(t.leg.channel, state::FE_REFUSED))
 }

@@ -10,6 +10,7 @@ use replies::reply;
 use transfer::phase::is_receiving_or_done;
 use transfer::state::{Step, Transfer};
 
+#[tactic(auto, unfolding(crate::specs::FE::answer_fe))]
 pub fn answer(t: Transfer, channel: u8) -> Step
     ensures { result ≡ answer_fe t channel }
 {
@@ -25,10 +26,5 @@ pub fn answer(t: Transfer, channel: u8) -> Step
 fn not_ending(t: Transfer, channel: u8) -> bool
     ensures { result ≡ (not (receiving_or_done t.leg.phase) || other_channel t channel) }
 {
-    let leg = t.leg;
-    let phase = leg.phase;
-    if is_receiving_or_done(phase) {
-        return t.other_channel(channel);
-    }
-    true
+    !is_receiving_or_done(t.leg.phase) || t.other_channel(channel)
 }

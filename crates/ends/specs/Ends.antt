@@ -1,5 +1,5 @@
 -- The sender of the bench, and the frames that both ends send. Assumes nothing.
-use Rattle.std.specs.Prelude.{◌≡◌, true, false, List, [], ◌∷◌, ◌++◌, ℕ, ◌≤◌, ◌<◌, length, take, drop}
+use Rattle.std.specs.Prelude.{◌≡◌, List, [], ◌∷◌, ◌++◌, ℕ, ◌≤◌, ◌<◌, length, take, drop}
 use Rattle.fronts.specs.Frame.{max_frame}
 use Rattle.sequences.specs.Padding.{zeros}
 use Rattle.commands.specs.Limits.{min_packet, max_area}
@@ -9,6 +9,7 @@ use Rattle.sender.specs.Senders.{fresh_sender}
 use Rattle.sender.specs.Opening.{offer_of, opened_sender}
 use Rattle.sender.specs.Requests.{requested, room_requested}
 use Rattle.link.specs.declared.frame.Frame.{Frame}
+use Rattle.link.specs.declared.frame.Way.TheVariants.{ToController, ToSender}
 
 -- PID all zero, version 1.0.3, MD5 all zero; n is the image's length
 abbrev pub image_offer : ℕ → ℕ → ℕ → Offer
@@ -29,8 +30,8 @@ frame_bytes f = take f.length f.bytes
 -- what the sender writes into a room of zeros
 abbrev pub request_sent : Sender → List ℕ → Frame
 request_sent s image =
-    record { to_sender = false; bytes = room_requested s image (zeros max_frame); length = (requested s image (zeros max_frame)).length }
+    record { way = ToController; bytes = room_requested s image (zeros max_frame); length = (requested s image (zeros max_frame)).length }
 
 -- what the controller has written into its room
 abbrev pub reply_sent : List ℕ → ℕ → Frame
-reply_sent room n = record { to_sender = true; bytes = room ++ drop (length room) (zeros max_frame); length = n }
+reply_sent room n = record { way = ToSender; bytes = room ++ drop (length room) (zeros max_frame); length = n }

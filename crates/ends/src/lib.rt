@@ -17,7 +17,7 @@ use controller::call::{Called, MIN_ROOM};
 use controller::portion::Portioned;
 use controller::record::Record;
 use fronts::MAX_FRAME;
-use link::frame::Frame;
+use link::frame::{Frame, Way};
 use sender::decision::Decided;
 use sender::sender::Sender;
 use sequences::part::front;
@@ -27,8 +27,7 @@ use sequences::place;
 pub fn open_sender(channel: u8, size: u16, image: &[u8]) -> Sender
     ensures { SenderOpens channel size (length image.now) result }
 {
-    let opened = Sender::open(channel, [0; 8], [1, 0, 3], [0; 16], size, image);
-    opened.sender
+    Sender::open(channel, [0; 8], [1, 0, 3], [0; 16], size, image).sender
 }
 
 // The request that the sender stands at.
@@ -36,11 +35,11 @@ pub fn request(sender: Sender, image: &[u8]) -> Frame
     ensures { result ≡ request_sent sender image.now }
 {
     let mut bytes = [0u8; MAX_FRAME];
-    let requested = sender.request(image, &mut bytes);
+    let length = sender.request(image, &mut bytes).length;
     Frame {
-        to_sender: false,
+        way: Way::ToController,
         bytes,
-        length: requested.length,
+        length,
     }
 }
 
@@ -51,7 +50,7 @@ pub fn reply(room: [u8; MIN_ROOM], length: usize) -> Frame
     let mut bytes = [0u8; MAX_FRAME];
     place::copy(&room, &mut bytes);
     Frame {
-        to_sender: true,
+        way: Way::ToSender,
         bytes,
         length,
     }
@@ -61,8 +60,7 @@ pub fn reply(room: [u8; MIN_ROOM], length: usize) -> Frame
 pub fn hear(sender: Sender, frame: Frame, image: &[u8]) -> Decided
     ensures { result ≡ after_reply sender image.now (frame_bytes frame) }
 {
-    let bytes = frame.bytes;
-    sender.reply(image, front(&bytes, frame.length))
+    sender.reply(image, front(&frame.bytes, frame.length))
 }
 
 // A request arrives at the controller.
@@ -75,8 +73,7 @@ pub fn feed(
     ensures { Leaves (fed_call (frame_bytes frame) «record» room.old area.old) result room.new
         area.new }
 {
-    let bytes = frame.bytes;
-    record.feed(front(&bytes, frame.length), room, area)
+    record.feed(front(&frame.bytes, frame.length), room, area)
 }
 
 // The controller goes on with its end check.

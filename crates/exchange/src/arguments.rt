@@ -36,10 +36,7 @@ pub(crate) fn read(rt: &HostRuntime, word: &mut [u8]) -> Words
 
 // Whether there is no argument at this place, nor behind it.
 fn is_missing(got: Result<usize, FillError>) -> bool {
-    match got {
-        Err(FillError::NotPresent) => true,
-        _ => false,
-    }
+    matches!(got, Err(FillError::NotPresent))
 }
 
 // With the argument at place i, as it was got into the room.
@@ -56,8 +53,5 @@ fn with_argument(words: Words, i: usize, got: Result<usize, FillError>, word: &[
 pub(crate) fn argument(rt: &HostRuntime, i: usize, word: &mut [u8]) -> usize
     ensures { result ≤ length word.new }
 {
-    match rt.arg(i, word) {
-        Ok(n) => n,
-        Err(_) => 0,
-    }
+    rt.arg(i, word).unwrap_or(0)
 }

@@ -37,6 +37,7 @@ ghost use Rattle.commands.specs.Limits.{max_area};
 ghost use Rattle.bench.specs.Boards.{fresh_on};
 ghost use Rattle.ends.specs.Ends.{open_sender};
 ghost use Rattle.words.specs.Ranges.{InRange};
+ghost use Rattle.words.specs.Sayings.{board_channel, packet_size};
 
 use bench::AREA;
 use dialogue::run::Run;
@@ -44,8 +45,8 @@ use image_file::MAX_IMAGE;
 use link::link::MEMORY;
 use link::script::Script;
 use sequences::part::front;
-use text::output::SIZE;
-use words::complaint::say;
+use text::complaint::say;
+use text::output::Output;
 use words::words::Words;
 
 fn main(rt: HostRuntime) {
@@ -55,10 +56,9 @@ fn main(rt: HostRuntime) {
         return;
     }
     let mut bytes = io::large_buffer();
-    let length = image_file::load(&rt, words.image, &mut word, &mut bytes);
-    if length == 0 {
+    let Some(length) = image_file::load(&rt, words.image, &mut word, &mut bytes) else {
         return;
-    }
+    };
     let script = letters::script(&rt, words.link, &mut word);
     exchange(words, script, &bytes, length, &word);
 }
@@ -68,14 +68,13 @@ fn exchange(words: Words, script: Script, bytes: &[u8; MAX_IMAGE], n: usize, let
     requires in_range { InRange words }
     requires n_nonzero { 0 < n }
 {
-    let all: &[u8] = bytes;
-    let image = front(all, n);
+    let image = front(bytes, n);
     let mut memory = io::large_buffer();
     let mut area = io::large_buffer();
-    let mut buffer = io::large_buffer();
-    let begun = start(words, script, image).request(image, letters, &mut memory, &mut buffer);
-    let run = turns(begun, image, letters, &mut memory, &mut area, &mut buffer);
-    let output = run.end(image, &memory, &area, &mut buffer);
+    let mut output = Output::empty();
+    let begun = start(words, script, image).request(image, letters, &mut memory, &mut output);
+    let run = turns(begun, image, letters, &mut memory, &mut area, &mut output);
+    run.end(image, &memory, &area, &mut output);
     if output.failed {
         say(b"exchange: cannot write to standard output\n");
     }
@@ -86,30 +85,28 @@ fn start(words: Words, script: Script, image: &[u8]) -> Run
     requires in_range { InRange words }
     requires image_nonzero { 0 < length image.now }
     requires image_len_bound { length image.now ≤ max_area }
-    ensures { (result.record ≡ fresh_on words.channel) ×
-        (result.sender ≡ open_sender words.channel words.size (length image.now)) }
+    ensures { (result.record ≡ fresh_on (board_channel words)) ×
+        (result.sender ≡ open_sender (board_channel words) (packet_size words) (length image.now)) }
 {
-    Run::start(words.channel, words.size, script, image)
+    Run::start(words.board_channel(), words.packet_size(), script, image)
 }
 
-// Turns until the run is over. A proved loop has to end, and that every exchange ends is not proved here: the turns are counted down from
-// a number that no run uses up.
+// Turns until the run is over. A proved loop has to end, and that every exchange ends is not proved here: the turns are counted up to a
+// number that no run comes to.
 fn turns(
     begun: Run,
     image: &[u8],
     letters: &[u8],
     memory: &mut [u8; MEMORY],
     area: &mut [u8; AREA],
-    buffer: &mut [u8; SIZE],
+    output: &mut Output,
 ) -> Run {
     let mut run = begun;
-    let mut left = u64::MAX;
-    while left > 0 {
-        if run.is_over() {
+    for _ in 0..u64::MAX {
+        if run.is_over(output) {
             return run;
         }
-        run = run.turn(image, letters, &mut *memory, &mut *area, &mut *buffer);
-        left -= 1;
+        run = run.turn(image, letters, memory, area, output);
     }
     run
 }

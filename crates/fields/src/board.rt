@@ -2,7 +2,7 @@
 ghost use Rattle.std.specs.Prelude.{◌≡◌};
 ghost use Rattle.fields.specs.Fields.{board_said, placed};
 
-use crate::choice::{eight_at, three_at};
+use crate::choice::bytes_at;
 use boards::board::Board;
 use boards::list::MAX_BOARDS;
 use phrases::phrase::BYTES;
@@ -10,25 +10,21 @@ use phrases::phrase::BYTES;
 pub fn said(permit: usize, bytes: &[u8; BYTES]) -> Board
     ensures { result ≡ board_said permit bytes.now }
 {
-    let soft = three_at(1, bytes);
-    let hard = three_at(4, bytes);
-    let pid = eight_at(7, bytes);
     Board {
         channel: bytes[0],
-        soft,
-        hard,
-        pid,
+        soft: bytes_at(1, bytes),
+        hard: bytes_at(4, bytes),
+        pid: bytes_at(7, bytes),
         permit: permit != 0,
     }
 }
 
 // With a board at this place; a list has ten.
-pub fn placed(boards: [Board; MAX_BOARDS], place: usize, board: Board) -> [Board; MAX_BOARDS]
+pub fn placed(mut boards: [Board; MAX_BOARDS], place: usize, board: Board) -> [Board; MAX_BOARDS]
     ensures { result ≡ placed boards place board }
 {
-    let mut all = boards;
     if place < MAX_BOARDS {
-        all[place] = board;
+        boards[place] = board;
     }
-    all
+    boards
 }

@@ -2,7 +2,7 @@
 ghost use Rattle.std.specs.Prelude.{◌≡◌};
 ghost use Rattle.fields.specs.SenderFields.{offer_said};
 
-use crate::choice::{eight_at, sixteen_at, three_at};
+use crate::choice::bytes_at;
 use phrases::phrase::BYTES;
 use sender::sender::Offer;
 
@@ -10,14 +10,11 @@ use sender::sender::Offer;
 pub fn said(size: usize, bytes: &[u8; BYTES], length: usize) -> Offer
     ensures { result ≡ offer_said size bytes.now length }
 {
-    let pid = eight_at(1, bytes);
-    let version = three_at(9, bytes);
-    let md5 = sixteen_at(12, bytes);
     Offer {
         channel: bytes[0],
-        pid,
-        version,
-        md5,
+        pid: bytes_at(1, bytes),
+        version: bytes_at(9, bytes),
+        md5: bytes_at(12, bytes),
         size: (size % 65536) as u16,
         length,
     }

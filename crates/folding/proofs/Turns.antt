@@ -1,30 +1,21 @@
 -- One turn of each loop, on lists. Assumes nothing.
 use mathlib.Core.Path.{◌≡◌, sym, ap, ap₂, ◌∙◌}
 use mathlib.Core.List.{List, [], ◌∷◌, ◌++◌}
-use Prim.Native.Nat.{ℕ, zero, suc, ◌+◌, ◌-◌, ◌≤◌, ◌<◌}
+use Prim.Native.Nat.{ℕ, zero, suc, ◌+◌, ◌<◌}
 use native.Mathlib.Nat.{add-zero}
 use native.Mathlib.Numerals.{add-one}
 use native.Mathlib.Omega.{arith}
 use lib.Bits.{bit_xor}
-use lib.ListN.{length, take, drop, get_or, set, length-drop}
-use lib.Seq.{drop-cons, drop-paste, get_or-drop, paste, paste-suc, take-suc-set}
+use lib.ListN.{length, take, drop, get_or, set}
+use lib.Seq.{drop-cons, take-suc-set}
 use Rattle.crc.specs.Folding.{gathered, swept, unswept}
 
--- one offset more, the one before the n-th
-pub gathered-more : (offs b : List ℕ) (at n sum : ℕ) → 0 < n → n ≤ length offs → sum ≡ gathered (drop n offs) b at
-    → bit_xor (get_or b (at - get_or offs (n - 1) 0) 0) sum ≡ gathered (drop (n - 1) offs) b at
-gathered-more offs b at n sum some there e =
-    let a = get_or offs (n - 1) 0 in
-    let same : suc (n - 1) ≡ n = omega arith in
-    ap (bit_xor (get_or b (at - a) 0)) e
-    ∙ sym (ap (λ (l : List ℕ). gathered l b at) (drop-cons offs (n - 1) 0 (omega arith) ∙ ap (λ (m : ℕ). a ∷ drop m offs) same))
-
 -- one byte more swept: what is to be swept is the same as at the start
-pub swept-more : (offs s b c : List ℕ) (at i sum : ℕ) → i < length s → sum ≡ gathered offs c (at + i)
+pub swept_more : (offs s b c : List ℕ) (at i sum : ℕ) → i < length s → sum ≡ gathered offs c (at + i)
     → swept offs at s b ≡ swept offs (at + i) (drop i s) c
     → swept offs at s b ≡ swept offs (at + (i + 1)) (drop (i + 1) s) (set c (at + i) (bit_xor (get_or s i 0) sum))
 unfolding swept
-swept-more offs s b c at i sum there added e =
+swept_more offs s b c at i sum there added e =
     let place : at + i + 1 ≡ at + (i + 1) = omega arith in
     let put : ℕ → List ℕ = λ g. set c (at + i) (bit_xor (get_or s i 0) g) in
     e
@@ -42,30 +33,12 @@ unswept-last offs b (suc n) p =
     (unswept-last offs b n (p + 1) ∙ ap (λ (q : ℕ). unswept offs (p + 1) n b ++ (bit_xor (get_or b q 0) (gathered offs b q) ∷ [])) place)
 
 -- one byte more unswept
-pub unswept-more : (offs b u : List ℕ) (at i sum : ℕ) → i < length u → sum ≡ gathered offs b (at + i) → take i u ≡ unswept offs at i b
+pub unswept_more : (offs b u : List ℕ) (at i sum : ℕ) → i < length u → sum ≡ gathered offs b (at + i) → take i u ≡ unswept offs at i b
     → take (i + 1) (set u i (bit_xor (get_or b (at + i) 0) sum)) ≡ unswept offs at (i + 1) b
-unswept-more offs b u at i sum there added e =
+unswept_more offs b u at i sum there added e =
     let x = bit_xor (get_or b (at + i) 0) (gathered offs b (at + i)) in
     ap₂ (λ (n g : ℕ). take n (set u i (bit_xor (get_or b (at + i) 0) g))) (add-one i) added
     ∙ take-suc-set u i x there
     ∙ ap (λ (l : List ℕ). l ++ (x ∷ [])) e
     ∙ sym (unswept-last offs b i at)
     ∙ ap (λ (n : ℕ). unswept offs at n b) (sym (add-one i))
-
--- one byte more moved down: it was not yet overwritten
-pub moved_more : (b c : List ℕ) (from to i : ℕ) → to ≤ from → from + i < length b → c ≡ paste b to (drop from b) i
-    → set c (to + i) (get_or c (from + i) 0) ≡ paste b to (drop from b) (i + 1)
-moved_more b c from to i down there e =
-    let done = paste b to (drop from b) i in
-    let place : from + i ≡ to + i + (from - to) = omega arith in
-    let less : i < length (drop from b) = rw length-drop (omega arith) in
-    let read : get_or c (from + i) 0 ≡ get_or (drop from b) i 0 =
-    ap₂ (λ (l : List ℕ) (n : ℕ). get_or l n 0) e place
-    ∙ sym (get_or-drop (to + i) done (from - to) 0)
-    ∙ ap (λ (l : List ℕ). get_or l (from - to) 0) (drop-paste b to (drop from b) i (omega arith) (omega arith))
-    ∙ get_or-drop (to + i) b (from - to) 0
-    ∙ ap (λ (n : ℕ). get_or b n 0) (sym place)
-    ∙ sym (get_or-drop from b i 0) in
-    ap₂ (λ (l : List ℕ) (x : ℕ). set l (to + i) x) e read
-    ∙ paste-suc b to (drop from b) i 0 (omega arith) less
-    ∙ ap (paste b to (drop from b)) (sym (add-one i))

@@ -6,13 +6,16 @@
 // a worked example. Each kind of CRC has its offsets. No byte waits for one nearer than the least of them, so the compiler takes 16 or 32
 // at a time.
 //
-// The public functions ask nothing: each first tests, once for all its bytes, that they lie in the buffer and no offset leads out of it,
-// and changes nothing where the test fails.
-ghost use Rattle.std.specs.Prelude.{◌≡◌, cond, ◌+◌, ◌≤◌, ◌<◌, min, leb, length, drop};
+// The public functions of this file ask nothing: each first tests, once for all its bytes, that they lie in the buffer and no offset leads
+// out of it, and changes nothing where the test fails. `message` carries a register over a long message by them.
+pub mod message;
+
+ghost use Rattle.std.specs.Prelude.{◌≡◌, cond, ◌+◌, ◌≤◌, ◌<◌, leb, length, drop};
 ghost use Rattle.std.proofs.Math.Seq.{paste};
 ghost use Rattle.crc.specs.Folding.{Within, gathered, swept, unswept, sweepable, movable};
 
 // Sweeps s into b, from place `at` on.
+#[tactic(auto, using(crc::proofs::Bounds::sweepable_where))]
 pub fn sweep(offsets: &[usize], at: usize, s: &[u8], b: &mut [u8])
     ensures { b.new ≡ cond (sweepable offsets.now at (length s.now) (length b.old))
         (swept offsets.now at s.now b.old) b.old }
@@ -23,6 +26,7 @@ pub fn sweep(offsets: &[usize], at: usize, s: &[u8], b: &mut [u8])
 }
 
 // Fills u with the bytes that, swept in from place `at` on behind what b has before it, give what b has there.
+#[tactic(auto, using(crc::proofs::Bounds::sweepable_where))]
 pub fn unsweep(offsets: &[usize], b: &[u8], at: usize, u: &mut [u8])
     ensures { u.new ≡ cond (sweepable offsets.now at (length u.old) (length b.now))
         (unswept offsets.now at (length u.old) b.now) u.old }
@@ -33,92 +37,57 @@ pub fn unsweep(offsets: &[usize], b: &[u8], at: usize, u: &mut [u8])
 }
 
 // Moves n bytes of b down, from place `from` on to place `to` on.
+#[tactic(auto, using(crc::proofs::Bounds::movable_where))]
 pub fn move_down(b: &mut [u8], from: usize, to: usize, n: usize)
     ensures { b.new ≡ cond (movable from to n (length b.old))
         (paste b.old to (drop from b.old) n) b.old }
 {
     if movable(from, to, n, b.len()) {
-        move_within(b, from, to, n);
+        b.copy_within(from..from + n, to);
     }
-}
-
-// How many of the bytes that are left the next part has.
-pub fn part_size(left: usize, most: usize) -> usize
-    ensures { result ≡ min left most }
-{
-    if left < most { left } else { most }
 }
 
 // Whether n bytes may be swept from place `at` on in a buffer of that size.
 fn sweepable(offsets: &[usize], at: usize, n: usize, size: usize) -> bool
     ensures { result ≡ sweepable offsets.now at n size }
 {
-    let mut i = 0;
-    while i < offsets.len() {
-        if at < offsets[i] {
-            return false;
-        }
-        i += 1;
-    }
-    ends_in(at, n, size)
+    offsets.iter().all(|offset| *offset <= at) && ends_in(at, n, size)
 }
 
 // Whether n bytes may be moved down in it.
+#[tactic(auto, unfolding(crc::specs::Folding::movable))]
 fn movable(from: usize, to: usize, n: usize, size: usize) -> bool
     ensures { result ≡ movable from to n size }
 {
-    if from < to {
-        return false;
-    }
-    ends_in(from, n, size)
+    to <= from && ends_in(from, n, size)
 }
 
 // Whether n bytes from place `at` on lie in it.
 fn ends_in(at: usize, n: usize, size: usize) -> bool
     ensures { result ≡ leb (at + n) size }
 {
-    if size < at {
-        return false;
-    }
-    n <= size - at
+    at <= size && n <= size - at
 }
 
 // `sweep`, where its test passed.
+#[tactic(auto, using(crate::proofs::Turns::swept_more), unfolding(crc::specs::Folding::swept))]
 fn sweep_within(offsets: &[usize], at: usize, s: &[u8], b: &mut [u8])
     requires { Within 0 at offsets.now × (at + length s.now ≤ length b.old) }
     ensures { b.new ≡ swept offsets.now at s.now b.old }
 {
-    let mut i = 0;
-    while i < s.len() {
-        let sum = gather(offsets, &*b, at + i);
-        b[at + i] = s[i] ^ sum;
-        i += 1;
+    for (i, x) in s.iter().enumerate() {
+        b[at + i] = *x ^ gather(offsets, &*b, at + i);
     }
 }
 
 // `unsweep`, where its test passed.
+#[tactic(auto, unfolding(crc::specs::Folding::unswept))]
 fn unsweep_within(offsets: &[usize], b: &[u8], at: usize, u: &mut [u8])
     requires { Within 0 at offsets.now × (at + length u.old ≤ length b.now) }
     ensures { u.new ≡ unswept offsets.now at (length u.old) b.now }
 {
-    let mut i = 0;
-    while i < u.len() {
-        let sum = gather(offsets, b, at + i);
-        u[i] = b[at + i] ^ sum;
-        i += 1;
-    }
-}
-
-// `move_down`, where its test passed.
-fn move_within(b: &mut [u8], from: usize, to: usize, n: usize)
-    requires { (to ≤ from) × (from + n ≤ length b.old) }
-    ensures { b.new ≡ paste b.old to (drop from b.old) n }
-{
-    let mut i = 0;
-    while i < n {
-        let moved = b[from + i];
-        b[to + i] = moved;
-        i += 1;
+    for i in 0..u.len() {
+        u[i] = b[at + i] ^ gather(offsets, b, at + i);
     }
 }
 
@@ -127,11 +96,9 @@ fn gather(offsets: &[usize], b: &[u8], at: usize) -> u8
     requires { Within 0 at offsets.now × (at < length b.now) }
     ensures { result ≡ gathered offsets.now b.now at }
 {
-    let mut sum = 0u8;
-    let mut n = offsets.len();
-    while n > 0 {
-        n -= 1;
-        sum = b[at - offsets[n]] ^ sum;
+    let mut sum = 0;
+    for offset in offsets {
+        sum ^= b[at - *offset];
     }
     sum
 }

@@ -4,6 +4,7 @@ pub mod Writes
 pub mod RoundTrips
 pub mod OneFrames
 pub mod Readings
+mod Wholes
 mod Turns
 mod Positions
 mod Stretches

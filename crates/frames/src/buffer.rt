@@ -9,12 +9,7 @@ use fronts::{OVERHEAD, header};
 pub fn whole(s: &[u8]) -> bool
     ensures { result ≡ whole_at s.now }
 {
-    let f = front_of(s);
-    match f {
-        Front::Whole => true,
-        Front::Dead => false,
-        Front::Open => false,
-    }
+    front_of(s) == Front::Whole
 }
 
 // The data of the frame at the first byte of s, as that part of s. Without a frame the part is empty, and so it is for a frame
@@ -35,10 +30,7 @@ pub fn data(s: &[u8]) -> &[u8]
 pub fn alone(s: &[u8]) -> bool
     ensures { result ≡ alone_at s.now }
 {
-    if whole(s) {
-        return OVERHEAD + data(s).len() == s.len();
-    }
-    false
+    whole(s) && OVERHEAD + data(s).len() == s.len()
 }
 
 // The version byte of the frame at the first byte of s; 0 without one.

@@ -45,10 +45,9 @@ impl FinishedFrame {
         let mut bytes = self.bytes;
         place::write(&mut bytes, at, part);
         FinishedFrame {
-            version: self.version,
-            command: self.command,
             length: at + n,
             bytes,
+            ..self
         }
     }
 
@@ -56,18 +55,10 @@ impl FinishedFrame {
     pub fn write(self, room: &mut [u8]) -> usize
         ensures { FinishedWritten self room.old result room.new }
     {
-        let bytes = self.bytes;
-        write_first(self.version, self.command, bytes, self.length, room)
+        if MAX_DATA < self.length {
+            0
+        } else {
+            writer::write(self.version, self.command, &self.bytes[..self.length], room)
+        }
     }
-}
-
-// Writes the frame whose data are the first n bytes.
-fn write_first(version: u8, command: u8, all: [u8; MAX_DATA], n: usize, room: &mut [u8]) -> usize
-    ensures { FinishedWritten (record { version = version; command = command; length = n; bytes = all }) room.old result
-        room.new }
-{
-    if MAX_DATA < n {
-        return 0;
-    }
-    writer::write(version, command, &all[..n], room)
 }

@@ -13,22 +13,21 @@ impl Reader {
     pub fn feed(self, input: &[u8]) -> Fed
         ensures { result ≡ fed self input.now }
     {
-        let count = self.count;
-        if MAX_FRAME < count {
+        // A guard and no value of an if: a value of this size would be copied once more.
+        if MAX_FRAME < self.count {
             return result::refused(self);
         }
-        feed_held(&self.held, count, input)
+        feed_held(&self.held, self.count, input)
     }
 
     // Tells that no byte is to come: what is held and is no whole frame is dropped. The call, too, ends at its first frame.
     pub fn quiet(self) -> Fed
         ensures { result ≡ quieted self }
     {
-        let count = self.count;
-        if MAX_FRAME < count {
+        if MAX_FRAME < self.count {
             return result::refused(self);
         }
-        quiet_held(&self.held, count)
+        quiet_held(&self.held, self.count)
     }
 }
 
@@ -36,8 +35,7 @@ fn feed_held(held: &[u8; MAX_FRAME], count: usize, input: &[u8]) -> Fed
     requires { count ≤ max_frame }
     ensures { result ≡ handed_back (feeding_call input.now (take count held.now) 0 0) }
 {
-    let all: &[u8] = held;
-    let a = &all[..count];
+    let a = &held[..count];
     let s = scan::feeding(a, input);
     result::stopped(a, input, s)
 }
@@ -46,8 +44,7 @@ fn quiet_held(held: &[u8; MAX_FRAME], count: usize) -> Fed
     requires { count ≤ max_frame }
     ensures { result ≡ handed_back (quiet_call (take count held.now) 0) }
 {
-    let all: &[u8] = held;
-    let a = &all[..count];
+    let a = &held[..count];
     let s = scan::quiet(a);
     result::stopped(a, &a[..0], s)
 }

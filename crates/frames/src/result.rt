@@ -14,7 +14,8 @@ use crate::scan::Scan;
 use fronts::{MAX_DATA, MAX_FRAME, OVERHEAD, header};
 use sequences::joined;
 
-// The bytes from `from` to `to` stay held; a frame at their front is used up.
+// The bytes from `from` to `to` stay held; a frame at their front is used up. Returned early: as the value of an if, and with the frame
+// that is none made by `FinishedFrame::empty`, the result was copied more often.
 pub(crate) fn stopped(a: &[u8], b: &[u8], s: Scan) -> Fed
     requires { Stop a.now b.now s }
     ensures { result ≡ handed_back (stopped_at a.now b.now s) }

@@ -9,7 +9,7 @@ use crate::search::{next_head, next_head_of};
 use fronts::front::{Front, front_at, missing};
 use sequences::bounds::{larger, smaller};
 
-// Where a call stops, and whether a whole frame stands there.
+// Where a call stops, and whether a whole frame stands there. The positions hold either way, so no Option carries them.
 #[derive(Clone, Copy)]
 pub struct Scan {
     pub from: usize,
@@ -28,8 +28,7 @@ pub(crate) fn feeding(a: &[u8], b: &[u8]) -> Scan
     let mut from = 0;
     let mut to = held;
     loop {
-        let f = front_at(a, b, from, to);
-        match f {
+        match front_at(a, b, from, to) {
             Front::Whole => {
                 return Scan {
                     from,
@@ -63,22 +62,14 @@ pub(crate) fn quiet(a: &[u8]) -> Scan
     let mut at = 0;
     let n = a.len();
     while at < n {
-        let f = front_at(a, &a[..0], at, n);
-        match f {
-            Front::Whole => {
-                return Scan {
-                    from: at,
-                    to: n,
-                    found: true,
-                };
-            }
-            Front::Dead => {
-                at = next_head(a, at + 1, n);
-            }
-            Front::Open => {
-                at = next_head(a, at + 1, n);
-            }
+        if front_at(a, &a[..0], at, n) == Front::Whole {
+            return Scan {
+                from: at,
+                to: n,
+                found: true,
+            };
         }
+        at = next_head(a, at + 1, n);
     }
     Scan {
         from: at,

@@ -18,9 +18,10 @@ pub(crate) fn next_head_of(a: &[u8], b: &[u8], from: usize) -> usize
 {
     let n = a.len();
     if from < n {
-        return next_head(a, from, n);
+        next_head(a, from, n)
+    } else {
+        n + next_head(b, from - n, b.len())
     }
-    n + next_head(b, from - n, b.len())
 }
 
 // The first such place of s, from `from` on and below `to`, or `to`.
@@ -30,10 +31,10 @@ pub(crate) fn next_head(s: &[u8], from: usize, to: usize) -> usize
 {
     let near = first_head(s, from, smaller(from + NEAR, to));
     if near + 1 < from + NEAR {
-        return near;
+        near
+    } else {
+        first_head(s, past_blocks(s, near, to), to)
     }
-    let i = past_blocks(s, near, to);
-    first_head(s, i, to)
 }
 
 // The same, one place after another.
@@ -41,26 +42,21 @@ fn first_head(s: &[u8], from: usize, to: usize) -> usize
     requires { (from ≤ to) × (to ≤ length s.now) }
     ensures { Headless s.now from to result }
 {
-    let mut i = from;
-    while i < to {
+    for i in from..to {
         if head_at(s, i, to) {
             return i;
         }
-        i += 1;
     }
     to
 }
 
-// Passes whole blocks without a head.
+// Passes whole blocks without a head. The place where the loop stops is the answer, so it is no range of steps.
 fn past_blocks(s: &[u8], from: usize, to: usize) -> usize
     requires { (from ≤ to) × (to ≤ length s.now) }
     ensures { Headless s.now from to result }
 {
     let mut i = from;
-    while i + BLOCK < to {
-        if 0 < heads(s, i) {
-            return i;
-        }
+    while i + BLOCK < to && heads(s, i) == 0 {
         i += BLOCK;
     }
     i
@@ -72,10 +68,8 @@ fn heads(s: &[u8], from: usize) -> u8
     ensures { result ≡ 0 → Headless s.now from (from + block_size + 1) (from + block_size) }
 {
     let mut count: u8 = 0;
-    let mut i = from;
-    while i < from + BLOCK {
+    for i in from..from + BLOCK {
         count += head(s[i], s[i + 1]);
-        i += 1;
     }
     count
 }
@@ -85,7 +79,7 @@ fn head(x: u8, y: u8) -> u8
     ensures { (result ≤ 1) × (result ≡ 0 → x ≡ head1 → y ≡ head2 → ⊥) }
 {
     let other = (x ^ header::HEAD_1) | (y ^ header::HEAD_2);
-    if other == 0 { 1 } else { 0 }
+    u8::from(other == 0)
 }
 
 // Whether a frame may begin at i, by its bytes below `to`.
@@ -93,11 +87,5 @@ fn head_at(s: &[u8], i: usize, to: usize) -> bool
     requires { (i < to) × (to ≤ length s.now) }
     ensures { result ≡ false → Stray s.now to i }
 {
-    if s[i] != header::HEAD_1 {
-        return false;
-    }
-    if to - i < 2 {
-        return true;
-    }
-    s[i + 1] == header::HEAD_2
+    s[i] == header::HEAD_1 && (to - i < 2 || s[i + 1] == header::HEAD_2)
 }

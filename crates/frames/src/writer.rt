@@ -6,6 +6,7 @@ ghost use Rattle.frames.specs.Buffer.{Written};
 
 use fronts::sum::sum;
 use fronts::{MAX_DATA, OVERHEAD, header};
+use sequences::number::bytes16;
 use sequences::place;
 
 // Writes the frame of version, command and data to the front of room and gives its size; bytes past it stay. Where the data is too
@@ -34,10 +35,13 @@ fn write_header(version: u8, command: u8, n: usize, room: &mut [u8])
     requires { (n ≤ max_data) × (header_size ≤ length room.old) }
     ensures { room.new ≡ sets room.old 0 (head1 ∷ head2 ∷ version ∷ command ∷ n / 256 ∷ n % 256 ∷ []) }
 {
-    room[0] = header::HEAD_1;
-    room[1] = header::HEAD_2;
-    room[header::VERSION] = version;
-    room[header::COMMAND] = command;
-    room[4] = (n / 256) as u8;
-    room[5] = (n % 256) as u8;
+    let [high, low] = bytes16(n);
+    room[..header::SIZE].copy_from_slice(&[
+        header::HEAD_1,
+        header::HEAD_2,
+        version,
+        command,
+        high,
+        low,
+    ]);
 }

@@ -29,7 +29,8 @@ pub fn length_at(a: &[u8], b: &[u8], from: usize) -> usize
     ensures { (result ≡ length_at (drop from (a.now ++ b.now))) × (result < max16) }
 {
     if past(a.len() + b.len(), from) <= LENGTH {
-        return 0;
+        0
+    } else {
+        number16(byte(a, b, from + 4), byte(a, b, from + 5))
     }
-    number16(byte(a, b, from + 4), byte(a, b, from + 5))
 }

@@ -11,10 +11,8 @@ pub fn sum(s: &[u8]) -> u8
     ensures { result ≡ sum_byte s.now }
 {
     let mut total: u8 = 0;
-    let mut i = 0;
-    while i < s.len() {
-        total = std::num::wrapping_add_u8(total, s[i]);
-        i += 1;
+    for byte in s {
+        total = total.wrapping_add(*byte);
     }
     total
 }
@@ -25,5 +23,5 @@ pub(crate) fn joined_sum(a: &[u8], b: &[u8], from: usize, to: usize) -> u8
 {
     let first = sum(between(a, from, to));
     let second = sum(joined::second(b, a.len(), from, to));
-    std::num::wrapping_add_u8(first, second)
+    first.wrapping_add(second)
 }

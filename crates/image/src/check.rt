@@ -1,12 +1,13 @@
 // The end check: the image's bytes are read back in portions.
 ghost use Rattle.std.specs.Prelude.{◌≡◌, ◌-◌, ◌≤◌};
-ghost use Rattle.image.specs.Checks.{no_check, started_check, portion_size, read_on, verdict_of, portion_of};
+ghost use Rattle.image.specs.Checks.{no_check, started_check, read_on, verdict_of, portion_of};
 
-use sequences::bounds::past;
+use sequences::bounds::{past, smaller};
 use sequences::part::between;
 
 #[derive(Clone, Copy)]
 pub struct Check {
+    // A flag beside the others and no Option of them: `no_check` and the console name read and register of a check that does not run.
     pub running: bool,
     // How many bytes of the image it has read.
     pub read: usize,
@@ -14,7 +15,7 @@ pub struct Check {
     pub register: u32,
 }
 
-#[derive(Clone, Copy)]
+#[derive(Clone, Copy, PartialEq, Eq)]
 pub enum Verdict {
     Unfinished,
     Right,
@@ -55,7 +56,7 @@ impl Check {
     pub fn portion(self, most: usize, announced: usize, crc: u32, area: &[u8]) -> Portion
         ensures { result ≡ portion_of self most announced crc area.now }
     {
-        let count = portion_size(most, past(announced, self.read));
+        let count = smaller(most, past(announced, self.read));
         let check = self.read_on(count, announced, area);
         let verdict = check.verdict(announced, crc);
         Portion {
@@ -73,9 +74,9 @@ impl Check {
         let from = self.read;
         let to = from + n;
         Check {
-            running: self.running,
             read: to,
             register: crc32::update(self.register, between(area, from, to)),
+            ..self
         }
     }
 
@@ -83,21 +84,11 @@ impl Check {
         ensures { result ≡ verdict_of self announced crc }
     {
         if self.read < announced {
-            return Verdict::Unfinished;
+            Verdict::Unfinished
+        } else if crc32::finish(self.register) == crc {
+            Verdict::Right
+        } else {
+            Verdict::Wrong
         }
-        if crc32::finish(self.register) == crc {
-            return Verdict::Right;
-        }
-        Verdict::Wrong
     }
-}
-
-// The smaller of the two.
-fn portion_size(most: usize, unread: usize) -> usize
-    ensures { (result ≡ portion_size most unread) × (result ≤ unread) }
-{
-    if most < unread {
-        return most;
-    }
-    unread
 }

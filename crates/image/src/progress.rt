@@ -5,7 +5,6 @@ ghost use Rattle.sequences.specs.Places.{written_at};
 ghost use Rattle.image.specs.Progresses.{first_stored, progress_from, storing, is_last};
 
 use sequences::bounds::past;
-use sequences::compare::same;
 use sequences::part::{front, part};
 use sequences::place;
 
@@ -32,16 +31,14 @@ impl Progress {
     {
         let n = bytes.len();
         let at = self.stored;
-        if area.len() < n {
-            return self;
-        }
-        if area.len() - n < at {
-            return self;
-        }
-        place::write(area, at, bytes);
-        Progress {
-            stored: at + n,
-            last: n,
+        if n <= area.len() && at <= area.len() - n {
+            place::write(area, at, bytes);
+            Progress {
+                stored: at + n,
+                last: n,
+            }
+        } else {
+            self
         }
     }
 
@@ -49,13 +46,9 @@ impl Progress {
     pub fn is_last(self, bytes: &[u8], area: &[u8]) -> bool
         ensures { result ≡ is_last self bytes.now area.now }
     {
-        if self.last == 0 {
-            return false;
-        }
-        if bytes.len() != self.last {
-            return false;
-        }
-        same(bytes, part(area, past(self.stored, self.last), self.last))
+        self.last != 0
+            && bytes.len() == self.last
+            && bytes == part(area, past(self.stored, self.last), self.last)
     }
 
     // The CRC-32 of what is stored.

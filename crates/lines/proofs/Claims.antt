@@ -7,8 +7,8 @@ use Rattle.lines.specs.declared.lines.Lines.{Lines}
 use Rattle.lines.specs.declared.lines.Next.{Next}
 use Rattle.lines.specs.declared.lines.Kind.TheVariants.{Line, TooLong, Unfinished, None}
 use Rattle.lines.specs.Lines.{line_buffer, newline_byte, wrapped_sum, line_in, waiting_in, moved_to}
-use Rattle.lines.specs.Lines.{without_line, line_told, line_ended, last_line}
-use Rattle.lines.specs.Lines.{passed_over, more_wanted, next_of, Told, LinesTold, RoomToRead, NoneLeft}
+use Rattle.lines.specs.Lines.{next_with, line_told, line_ended, last_line}
+use Rattle.lines.specs.Lines.{passed_over, more_wanted, next_of, Told, KindTold, LinesTold, RoomToRead, NoneLeft}
 use Rattle.lines.proofs.Newlines.{line-within, newline-there, no-newline-before}
 use Rattle.lines.proofs.Parts.{slice_no_longer, slice_front}
 
@@ -16,10 +16,10 @@ use Rattle.lines.proofs.Parts.{slice_no_longer, slice_front}
 
 -- the end of a line too long, and a line of n bytes: with what is told up to a place
 abbrev too_long_to : Lines → ℕ → Next
-too_long_to l to = without_line (moved_to l to (wrapped_sum l.number 1) false) TooLong
+too_long_to l to = next_with (moved_to l to (wrapped_sum l.number 1) false) TooLong
 
 abbrev line_to : Lines → ℕ → ℕ → Next
-line_to l to n = record { kind = Line; from = l.at; length = n; lines = moved_to l to (wrapped_sum l.number 1) false }
+line_to l to n = next_with (moved_to l to (wrapped_sum l.number 1) false) (Line l.at n)
 
 module _ (P : Next → Type 0) (l : Lines) (n : ℕ) where
   told_cases : (to : ℕ) → P (too_long_to l to) → P (line_to l to n) → P (line_told (moved_to l to l.number l.is_passing) l.at n)
@@ -27,7 +27,7 @@ module _ (P : Next → Type 0) (l : Lines) (n : ℕ) where
 
   last_cases : P (too_long_to l l.end)
       → P (line_to l l.end n)
-      → (l.is_passing ≡ false → n ≡ 0 → P (without_line l None))
+      → (l.is_passing ≡ false → n ≡ 0 → P (next_with l None))
       → P (last_line l n)
   last_cases long line none =
       of_each P l.is_passing _ _ (λ _. told_cases l.end long line)
@@ -98,7 +98,7 @@ module _ (l : Lines) (input : List ℕ) where
         split_at waiting n 0 ended
         ∙ ap₂ ◌++◌ (sym line-cut) (ap₂ ◌∷◌ (newline-there waiting ended) (sym left))
 
-    told-ended : Told l input (line_to l next n)
+    told-ended : Told l input l.at n (line_to l next n).lines
     told-ended =
         record {
           stands = inl with_newline;
@@ -109,7 +109,7 @@ module _ (l : Lines) (input : List ℕ) where
 
   -- up to the input's end
   module _ (all : length waiting ≤ n) (short : n < line_buffer) (over : l.is_over ≡ true) where
-    told-last : Told l input (line_to l l.end n)
+    told-last : Told l input l.at n (line_to l l.end n).lines
     told-last =
         let whole : waiting ≡ line = sym (line-cut ∙ take_all n waiting all) in
         record { stands = inr (over, whole, slice_empty l.end input); one = no-newline; counts = line-size; short = short }
@@ -117,13 +117,13 @@ module _ (l : Lines) (input : List ℕ) where
 pub lines_told : LinesTold
 lines_told l input fits =
     next_cases P l (n l input) (length (waiting l input))
-    (λ h. told_cases P l (n l input) (next l input fits h) (λ e. never (cc)) (λ _. told-ended l input fits h))
-    (λ all short over. last_cases P l (n l input) (λ e. never (cc)) (λ _. told-last l input all short over) (λ _ _ e. never (cc)))
-    (λ _ _. of_each P l.is_passing (passed_over l) (without_line l Unfinished) (λ _ e. never (cc)) (λ _ e. never (cc)))
-    (λ e. never (cc))
+    (λ h. told_cases P l (n l input) (next l input fits h) tt (told-ended l input fits h))
+    (λ all short over. last_cases P l (n l input) tt (told-last l input all short over) (λ _ _. tt))
+    (λ _ _. of_each P l.is_passing (passed_over l) (next_with l Unfinished) (λ _. tt) (λ _. tt))
+    tt
   where
     P : Next → Type 0
-    P r = r.kind ≡ Line → Told l input r
+    P r = KindTold l input r.kind r.lines
 
 -- ---- where none is told
 
@@ -132,7 +132,7 @@ room_to_read l input =
     next_cases P l (n l input) (length (waiting l input))
     (λ _. told_cases P l (n l input) (wrapped_sum (wrapped_sum l.at (n l input)) 1) (λ e. never (cc)) (λ e. never (cc)))
     (λ _ _ _. last_cases P l (n l input) (λ e. never (cc)) (λ e. never (cc)) (λ _ _ e. never (cc)))
-    (λ all short. of_each P l.is_passing (passed_over l) (without_line l Unfinished) (λ _. passed) (λ _ _. omega arith))
+    (λ all short. of_each P l.is_passing (passed_over l) (next_with l Unfinished) (λ _. passed) (λ _ _. omega arith))
     passed
   where
     P : Next → Type 0
@@ -147,7 +147,7 @@ none_left l input =
     (λ _. told_cases P l (n l input) (wrapped_sum (wrapped_sum l.at (n l input)) 1) (λ e. never (cc)) (λ e. never (cc)))
     (λ all _ over. last_cases P l (n l input) (λ e. never (cc)) (λ e. never (cc))
     (λ fresh z _. (over, fresh, drop_of_length-le (waiting l input) {i = 0} (omega arith))))
-    (λ _ _. of_each P l.is_passing (passed_over l) (without_line l Unfinished) (λ _ e. never (cc)) (λ _ e. never (cc)))
+    (λ _ _. of_each P l.is_passing (passed_over l) (next_with l Unfinished) (λ _ e. never (cc)) (λ _ e. never (cc)))
     (λ e. never (cc))
   where
     P : Next → Type 0

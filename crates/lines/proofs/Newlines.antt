@@ -1,30 +1,12 @@
 -- The first newline of some bytes. Assumes nothing.
-use Rattle.std.proofs.Common.{◌≢◌, drop, drop_of_length-le, add-one, eq-eqb, ne_eqb, ◌≡◌, ℕ, zero, suc, ◌+◌, ◌<◌, ◌≤◌, Bool, true, false, eqb, List, [], ◌∷◌, length, get_or, refl, ap, ◌∙◌, arith, eqb-true}
+use Rattle.std.proofs.Common.{◌≡◌, ℕ, zero, suc, ◌+◌, ◌<◌, ◌≤◌, Bool, true, false, eqb, ltb, List, [], ◌∷◌, length, get_or, refl, arith, eqb-true, ltb-false}
+use Rattle.std.specs.Prelude.{Option, Some, None, cond}
+use Rattle.std.specs.Option.{unwrap_or}
+use Rattle.std.specs.List.{position, position_or_len}
+use Rattle.std.proofs.lemmas.List.Recursion.{is_position_or_len}
+use Rattle.sequences.proofs.Conditionals.{of_each}
 use borrow.Author.Tests.{eqb-false}
-use lib.Seq.{drop-cons}
 use Rattle.lines.specs.Lines.{index_of, index_after, newline_byte, line_in}
-
--- ---- a search from the front, byte by byte
-
-module _ (s : List ℕ) (i : ℕ) where
-  pub goes_on : i < length s → get_or s i 0 ≢ newline_byte → i + line_in (drop i s) ≡ i + 1 + line_in (drop (i + 1) s)
-  unfolding index_of index_after
-  goes_on h e =
-      let here : line_in (drop i s) ≡ suc (line_in (drop (i + 1) s)) =
-      ap line_in (drop-cons s i 0 h) ∙ simp (ne_eqb _ _ e, add-one i) in
-      omega arith
-
-  pub found_here : i < length s → get_or s i 0 ≡ newline_byte → i + line_in (drop i s) ≡ i
-  unfolding index_of index_after
-  found_here h e =
-      let here : line_in (drop i s) ≡ 0 = ap line_in (drop-cons s i 0 h) ∙ simp (eq-eqb _ _ e) in
-      omega arith
-
-  pub all_searched : length s ≤ i → i + line_in (drop i s) ≡ i
-  unfolding index_of
-  all_searched h =
-      let here : line_in (drop i s) ≡ 0 = ap line_in (drop_of_length-le s {i = i} h) in
-      omega arith
 
 -- ---- one byte more in front
 
@@ -62,3 +44,24 @@ pub no-newline-before : (s : List ℕ) (i : ℕ) → i < line_in s → get_or s 
 unfolding index_of
 no-newline-before [] i h e = omega arith
 no-newline-before (x ∷ s) i h e = none_after (eqb x newline_byte) x (line_in s) s (eqb-false x newline_byte) (no-newline-before s) i h e
+
+-- ---- as std finds it
+
+abbrev is_newline : ℕ → Bool
+is_newline b = eqb b newline_byte
+
+after-as-cond : (b : Bool) (k : ℕ) → index_after b k ≡ cond b 0 (1 + k)
+unfolding index_after
+after-as-cond true k = refl
+after-as-cond false k = omega arith
+
+line-place : (s : List ℕ) → line_in s ≡ position_or_len is_newline s
+unfolding index_of
+line-place s = is_position_or_len line_in is_newline refl (λ x t. after-as-cond (is_newline x) (line_in t)) s
+
+pub line-found : (s : List ℕ) → line_in s ≡ unwrap_or (position is_newline s) (length s)
+line-found s =
+    let place = position_or_len is_newline s in
+    of_each (λ (o : Option ℕ). line_in s ≡ unwrap_or o (length s)) (ltb place (length s)) (Some place) None
+    (λ _. line-place s)
+    (λ e. omega (arith, line-place s, ltb-false place (length s) e, line-within s))

@@ -1,6 +1,6 @@
 -- docs/CONSOLE.md, "Lines": "A line ends with a newline; the last one may do without. It has at most 65,535 bytes." Which bytes a read
 -- brings no definition can say. Assumes nothing.
-use Rattle.std.specs.Prelude.{◌≡◌, ℕ, ◌+◌, ◌%◌, ◌^◌, ◌<◌, ◌≤◌, Bool, true, false, cond, ◌⊎◌, List, [], ◌∷◌, ◌++◌, suc, length, take, ◌==◌, ◌≢◌, nat_lt, slice_index}
+use Rattle.std.specs.Prelude.{◌≡◌, ℕ, ◌+◌, ◌%◌, ◌^◌, ◌<◌, ◌≤◌, Bool, true, false, cond, ◌⊎◌, List, [], ◌∷◌, ◌++◌, suc, length, take, ◌==◌, ◌≢◌, nat_lt, slice_index, Option, IfSome}
 use Rattle.std.proofs.Math.Seq.{slice}
 use Rattle.lines.specs.declared.lines.Lines.{Lines}
 use Rattle.lines.specs.declared.lines.Next.{Next}
@@ -48,15 +48,15 @@ module _ (l : Lines) where
   moved_to at number passing =
       record { at = at; end = l.end; number = number; is_passing = passing; is_over = l.is_over; failed = l.failed }
 
-  -- no line is told
-  abbrev pub without_line : Kind → Next
-  without_line k = record { kind = k; from = 0; length = 0; lines = l }
+  -- with what comes next
+  abbrev pub next_with : Kind → Next
+  next_with k = record { kind = k; lines = l }
 
 -- "every line counted": one that began within a line too long is the end of that one
 abbrev pub line_told : Lines → ℕ → ℕ → Next
 line_told l from n =
     let next = moved_to l l.at (wrapped_sum l.number 1) false in
-    cond l.is_passing (without_line next TooLong) (record { kind = Line; from = from; length = n; lines = next })
+    cond l.is_passing (next_with next TooLong) (next_with next (Line from n))
 
 module _ (l : Lines) where
   -- "A line ends with a newline": of n bytes, and the newline is passed
@@ -67,15 +67,15 @@ module _ (l : Lines) where
   abbrev pub last_line : ℕ → Next
   last_line n =
       let line = line_told (moved_to l l.end l.number l.is_passing) l.at n in
-      cond l.is_passing line (cond (n == 0) (without_line l None) line)
+      cond l.is_passing line (cond (n == 0) (next_with l None) line)
 
   -- all of them are of a line too long, and are not kept
   abbrev pub passed_over : Next
-  passed_over = without_line (moved_to l l.end l.number true) Unfinished
+  passed_over = next_with (moved_to l l.end l.number true) Unfinished
 
   -- the line is not at its end
   abbrev pub more_wanted : Next
-  more_wanted = cond l.is_passing passed_over (without_line l Unfinished)
+  more_wanted = cond l.is_passing passed_over (next_with l Unfinished)
 
   -- what comes next, where so many bytes are not told yet, n of them before the first newline. "It has at most 65,535 bytes": a full
   -- buffer without a newline is of a line too long
@@ -95,15 +95,13 @@ pub record ToFront (waiting : List ℕ) (n : ℕ) (after : List ℕ) : Type 0 wh
   pub stands : take n after ≡ waiting
 
 -- a read with room for so many bytes; a failed one brings none
-pub record GotWithin (room count : ℕ) (failed : Bool) : Type 0 where
-  pub within : count ≤ room
-  pub fails : failed ≡ true → count ≡ 0
+abbrev pub GotWithin : ℕ → Option ℕ → Type 0
+GotWithin room got = IfSome got (λ count. count ≤ room)
 
 -- a read to behind the first bytes
-pub record GotBehind (kept : ℕ) (input : List ℕ) (count : ℕ) (failed : Bool) (after : List ℕ) : Type 0 where
+pub record GotBehind (kept : ℕ) (input : List ℕ) (got : Option ℕ) (after : List ℕ) : Type 0 where
   pub stays : take kept after ≡ take kept input
-  pub within : kept + count ≤ length input
-  pub fails : failed ≡ true → count ≡ 0
+  pub within : IfSome got (λ count. kept + count ≤ length input)
 
 -- what is not told yet is kept, and what was read stands behind it. The input is over once a read brings nothing; a failed one brings none
 pub record ReadOn (l : Lines) (input : List ℕ) (r : Lines) (after : List ℕ) : Type 0 where
@@ -118,23 +116,31 @@ pub record ReadOn (l : Lines) (input : List ℕ) (r : Lines) (after : List ℕ) 
 
 -- ---- claims
 
--- the bytes of a line that is told
-abbrev pub line_of : Next → List ℕ → List ℕ
-line_of r input = slice r.from (r.from + r.length) input
+-- the bytes of a line that is told, of n bytes
+abbrev pub line_of : ℕ → ℕ → List ℕ → List ℕ
+line_of from n input = slice from (from + n) input
 
--- a line that is told: where it stands among the bytes that were not told yet, with those that are left now, and what it is made of
-pub record Told (l : Lines) (input : List ℕ) (r : Next) : Type 0 where
+-- a line of n bytes that is told: where it stands among the bytes that were not told yet, with those that are left now, and what it is
+-- made of
+pub record Told (l : Lines) (input : List ℕ) (from n : ℕ) (left : Lines) : Type 0 where
   -- "A line ends with a newline; the last one may do without."
-  pub stands : (waiting_in l input ≡ line_of r input ++ (newline_byte ∷ waiting_in r.lines input))
-      ⊎ ((l.is_over ≡ true) × (waiting_in l input ≡ line_of r input) × (waiting_in r.lines input ≡ []))
-  pub one : (i : ℕ) → i < r.length → slice_index (line_of r input) i ≢ newline_byte
-  pub counts : length (line_of r input) ≡ r.length
+  pub stands : (waiting_in l input ≡ line_of from n input ++ (newline_byte ∷ waiting_in left input))
+      ⊎ ((l.is_over ≡ true) × (waiting_in l input ≡ line_of from n input) × (waiting_in left input ≡ []))
+  pub one : (i : ℕ) → i < n → slice_index (line_of from n input) i ≢ newline_byte
+  pub counts : length (line_of from n input) ≡ n
   -- "It has at most 65,535 bytes."
-  pub short : r.length < line_buffer
+  pub short : n < line_buffer
+
+-- what comes next is told, where it is a line
+abbrev pub KindTold : Lines → List ℕ → Kind → Lines → Type 0
+KindTold l input (Line from n) left = Told l input from n left
+KindTold l input TooLong left = Unit
+KindTold l input Unfinished left = Unit
+KindTold l input None left = Unit
 
 -- The claim, from every place and in every buffer.
 abbrev pub LinesTold : Type 0
-LinesTold = (l : Lines) (input : List ℕ) → length input ≤ line_buffer → (next_line l input).kind ≡ Line → Told l input (next_line l input)
+LinesTold = (l : Lines) (input : List ℕ) → length input ≤ line_buffer → KindTold l input (next_line l input).kind (next_line l input).lines
 
 -- The claim: more is asked for only where a read has room for it, so that one that brings nothing is at the input's end.
 abbrev pub RoomToRead : Type 0

@@ -1,11 +1,11 @@
 // Lines in a buffer.
-ghost use Rattle.std.specs.Prelude.{◌≡◌, ◌≤◌, length};
+ghost use Rattle.std.specs.Prelude.{◌≡◌, ◌≤◌, ◌==◌, length};
+ghost use Rattle.std.specs.List.{position};
 ghost use Rattle.std.proofs.Math.Seq.{slice};
-ghost use Rattle.lines.specs.Lines.{wrapped_sum, no_lines, line_in, next_line, line_ended, last_line, more_wanted, passed_over, line_told};
-ghost use Rattle.lines.specs.Lines.{without_line, ToFront, GotWithin, GotBehind, ReadOn};
+ghost use Rattle.lines.specs.Lines.{newline_byte, no_lines, line_in, next_line, line_ended, last_line, more_wanted, passed_over, line_told};
+ghost use Rattle.lines.specs.Lines.{next_with, ToFront, GotWithin, GotBehind, ReadOn};
 
 use sequences::part::between;
-use sequences::place;
 use std::io::{Read, Stdin};
 
 // The length of the input buffer: as `io::large_buffer` gives.
@@ -28,8 +28,8 @@ pub struct Lines {
 
 #[derive(Clone, Copy)]
 pub enum Kind {
-    // The next line stands in the buffer.
-    Line,
+    // The next line stands in the buffer: so many bytes from `from` on.
+    Line { from: usize, length: usize },
     // The next line is too long, and is passed.
     TooLong,
     // The next line is not finished: `read`.
@@ -38,12 +38,9 @@ pub enum Kind {
     None,
 }
 
-// A line has so many bytes of the buffer, beginning at `from`; where none is told both are 0.
 #[derive(Clone, Copy)]
 pub struct Next {
     pub kind: Kind,
-    pub from: usize,
-    pub length: usize,
     pub lines: Lines,
 }
 
@@ -85,7 +82,7 @@ impl Lines {
         ensures { result ≡ line_ended self length }
     {
         let from = self.at;
-        self.at = plus(plus(from, length), 1);
+        self.at = from.wrapping_add(length).wrapping_add(1);
         self.told(from, length)
     }
 
@@ -99,7 +96,7 @@ impl Lines {
             return self.told(from, length);
         }
         if length == 0 {
-            return self.without_line(Kind::None);
+            return self.with(Kind::None);
         }
         self.at = self.end;
         self.told(from, length)
@@ -112,7 +109,7 @@ impl Lines {
         if self.is_passing {
             return self.passed_over();
         }
-        self.without_line(Kind::Unfinished)
+        self.with(Kind::Unfinished)
     }
 
     // They are all of a line too long, which is not at its end.
@@ -121,35 +118,25 @@ impl Lines {
     {
         self.at = self.end;
         self.is_passing = true;
-        self.without_line(Kind::Unfinished)
+        self.with(Kind::Unfinished)
     }
 
     // The line of so many bytes that begins there is told; one that is too long is passed.
     fn told(mut self, from: usize, length: usize) -> Next
         ensures { result ≡ line_told self from length }
     {
-        self.number = std::num::wrapping_add_u64(self.number, 1);
+        self.number = self.number.wrapping_add(1);
         if self.is_passing {
             self.is_passing = false;
-            return self.without_line(Kind::TooLong);
+            return self.with(Kind::TooLong);
         }
-        Next {
-            kind: Kind::Line,
-            from,
-            length,
-            lines: self,
-        }
+        self.with(Kind::Line { from, length })
     }
 
-    fn without_line(self, kind: Kind) -> Next
-        ensures { result ≡ without_line self kind }
+    fn with(self, kind: Kind) -> Next
+        ensures { result ≡ next_with self kind }
     {
-        Next {
-            kind,
-            from: 0,
-            length: 0,
-            lines: self,
-        }
+        Next { kind, lines: self }
     }
 
     // Reads on behind the bytes that are not told yet, which go to the buffer's front.
@@ -158,73 +145,48 @@ impl Lines {
     {
         let kept = to_front(self.at, self.end, &mut *input);
         let got = read_behind(stdin, kept, input);
+        let count = got.unwrap_or(0);
         self.at = 0;
-        self.end = kept + got.count;
-        self.is_over = got.count == 0;
-        self.failed = got.failed;
+        self.end = kept + count;
+        self.is_over = count == 0;
+        self.failed = got.is_none();
         self
     }
 }
 
-#[derive(Clone, Copy)]
-struct Got {
-    count: usize,
-    failed: bool,
-}
-
-// One read, to behind the first `kept` bytes.
-fn read_behind(stdin: Stdin, kept: usize, all: &mut [u8]) -> Got
+// One read, to behind the first `kept` bytes; None where it fails.
+fn read_behind(stdin: Stdin, kept: usize, all: &mut [u8]) -> Option<usize>
     requires { kept ≤ length all.old }
-    ensures { GotBehind kept all.old result.count result.failed all.new }
+    ensures { GotBehind kept all.old result all.new }
 {
     read_into(stdin, &mut all[kept..])
 }
 
-fn read_into(mut stdin: Stdin, rest: &mut [u8]) -> Got
-    ensures { GotWithin (length rest.old) result.count result.failed }
+fn read_into(mut stdin: Stdin, rest: &mut [u8]) -> Option<usize>
+    ensures { GotWithin (length rest.old) result }
 {
-    match stdin.read(rest) {
-        Ok(count) => Got {
-            count,
-            failed: false,
-        },
-        Err(_) => Got {
-            count: 0,
-            failed: true,
-        },
-    }
+    stdin.read(rest).ok()
 }
 
 // Moves the bytes between these places to the front, and answers how many they are.
 fn to_front(at: usize, end: usize, input: &mut [u8; INPUT]) -> usize
     ensures { ToFront (slice at end input.old) result input.new }
 {
-    let copy = *input;
-    copy_to_front(at, end, &copy, input)
-}
-
-fn copy_to_front(at: usize, end: usize, from: &[u8; INPUT], to: &mut [u8; INPUT]) -> usize
-    ensures { ToFront (slice at end from.now) result to.new }
-{
-    let part = between(from, at, end);
-    place::write(to, 0, part);
-    part.len()
-}
-
-fn plus(a: usize, b: usize) -> usize
-    ensures { result ≡ wrapped_sum a b }
-{
-    std::num::wrapping_add_usize(a, b)
+    let end = end.min(INPUT);
+    let at = at.min(end);
+    input.copy_within(at..end, 0);
+    end - at
 }
 
 // The bytes before the first newline.
 fn line_in(s: &[u8]) -> usize
     ensures { result ≡ line_in s.now }
 {
-    for (i, b) in s.iter().enumerate() {
-        if *b == b'\n' {
-            return i;
-        }
-    }
-    s.len()
+    first_newline(s).unwrap_or(s.len())
+}
+
+fn first_newline(s: &[u8]) -> Option<usize>
+    ensures { result ≡ position (λ b. b == newline_byte) s.now }
+{
+    s.iter().position(|b| *b == b'\n')
 }

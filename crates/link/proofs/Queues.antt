@@ -1,18 +1,16 @@
 -- The frames under way stay in the order in which they were sent. Assumes nothing.
-use Rattle.std.proofs.Common.{◌≡◌, ℕ, ◌-◌, ◌*◌, ◌<◌, Bool, false, List, take, drop, sym, refl, ap, ◌∙◌, ap₂, ⊎_elim, arith, get_or-set_other, get_or-set_same, ne_eqb}
+use Rattle.std.proofs.Common.{◌≡◌, ℕ, ◌-◌, ◌*◌, ◌<◌, List, take, drop, sym, refl, ap, ◌∙◌, ap₂, ⊎_elim, arith, get_or-set_other, get_or-set_same, ne_eqb}
 use Rattle.sequences.proofs.Orders.{lt_or_le}
 use Rattle.sequences.proofs.Places.{written-there, written-before, written_behind}
 use Rattle.link.specs.declared.frame.Frame.{Frame}
+use Rattle.link.specs.declared.link.Head.{Head}
 use Rattle.link.specs.declared.link.Link.{Link}
-use Rattle.link.specs.Links.{ring_place, with_bytes, passed}
+use Rattle.link.specs.Links.{no_head, head_of, ring_place, with_bytes, passed}
 use Rattle.link.specs.Queues.{Fits, Behind, InOrder}
 use Rattle.link.proofs.Rings.{apart, moved_up}
 
-abbrev made : Bool → List ℕ → ℕ → Frame
-made b s n = record { to_sender = b; bytes = s; length = n }
-
-all_three : {b b' : Bool} {s s' : List ℕ} {n n' : ℕ} → b ≡ b' → s ≡ s' → n ≡ n' → made b s n ≡ made b' s' n'
-all_three {b} {b'} {s} {s'} {n} {n'} e f g = ap₂ (λ (x : Bool) (y : List ℕ). made x y n) e f ∙ ap (made b' s') g
+abbrev made : Head → List ℕ → Frame
+made h s = record { way = h.way; bytes = s; length = h.length }
 
 module _ (l : Link) (f : Frame) (memory : List ℕ) (fits : Fits l f memory) (most : l.count < 64) where
   abbrev p : ℕ
@@ -41,18 +39,14 @@ module _ (l : Link) (f : Frame) (memory : List ℕ) (fits : Fits l f memory) (mo
   behind =
       let size = fits.bytes in
       let room = fits.room in
-      let lengths = fits.lengths in
-      let ways = fits.ways in
+      let heads = fits.heads in
       let below = in-ring in
       let back = ap (λ (n : ℕ). take n (drop (p * 526) after)) (sym size) ∙ written-there memory f.bytes (p * 526) (omega arith) in
       record {
-        last = all_three (get_or-set_same l.to_sender p f.to_sender false (omega arith)) back
-            (get_or-set_same l.lengths p f.length 0 (omega arith));
+        last = ap₂ made (get_or-set_same l.heads p (head_of f) no_head (omega arith)) back;
         others = λ i h.
             let other : ring_place l i ≡ p → ⊥ = apart l.first i l.count h most in
-            all_three (get_or-set_other l.to_sender p (ring_place l i) f.to_sender false other)
-            (bytes_stay (ring_place l i) other)
-            (get_or-set_other l.lengths p (ring_place l i) f.length 0 other);
+            ap₂ made (get_or-set_other l.heads p (ring_place l i) (head_of f) no_head other) (bytes_stay (ring_place l i) other);
       }
 
 -- an arrival leaves one frame less

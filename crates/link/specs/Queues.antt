@@ -6,8 +6,7 @@ use Rattle.link.specs.Links.{places, place_size, frame_under_way, with_sent, wit
 
 -- arrays of the lengths that their types say, and memory for all places
 pub record Fits (l : Link) (f : Frame) (memory : List ℕ) : Type 0 where
-  pub lengths : length l.lengths ≡ places
-  pub ways : length l.to_sender ≡ places
+  pub heads : length l.heads ≡ places
   pub bytes : length f.bytes ≡ place_size
   pub room : places * place_size ≤ length memory
 

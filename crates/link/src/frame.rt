@@ -3,11 +3,16 @@
 // The longest frame.
 pub const SIZE: usize = 526;
 
+#[derive(Clone, Copy, PartialEq, Eq)]
+pub enum Way {
+    ToController,
+    ToSender,
+}
+
 // Its first `length` bytes.
 #[derive(Clone, Copy)]
 pub struct Frame {
-    // Else it goes to the controller.
-    pub to_sender: bool,
+    pub way: Way,
     pub bytes: [u8; SIZE],
     pub length: usize,
 }

@@ -3,7 +3,7 @@ ghost use Rattle.std.specs.Prelude.{◌≡◌, ◌+◌, ◌%◌, ◌<◌};
 ghost use Rattle.link.specs.Links.{places, place_start, bytes_at, no_frames, frame_under_way, with_sent, with_bytes, sent_link};
 ghost use Rattle.link.specs.Links.{sent_memory, passed};
 
-use crate::frame::{Frame, SIZE};
+use crate::frame::{Frame, SIZE, Way};
 use sequences::place;
 
 // How many frames can be under way.
@@ -12,13 +12,19 @@ pub const PLACES: usize = 64;
 // The length of the memory that holds them, each at its place: as `io::large_buffer` gives.
 pub const MEMORY: usize = 65536;
 
+// Of a frame at a place all but its bytes: these stand in lent memory, as a link with 64 whole frames is too much to copy at each call.
+#[derive(Clone, Copy)]
+pub struct Head {
+    pub way: Way,
+    pub length: usize,
+}
+
 // The frames stand from place `first` on; after the last place comes the first.
 #[derive(Clone, Copy)]
 pub struct Link {
     pub first: usize,
     pub count: usize,
-    pub lengths: [usize; PLACES],
-    pub to_sender: [bool; PLACES],
+    pub heads: [Head; PLACES],
 }
 
 impl Link {
@@ -28,8 +34,10 @@ impl Link {
         Link {
             first: 0,
             count: 0,
-            lengths: [0; PLACES],
-            to_sender: [false; PLACES],
+            heads: [Head {
+                way: Way::ToController,
+                length: 0,
+            }; PLACES],
         }
     }
 
@@ -39,9 +47,10 @@ impl Link {
         ensures memory_after { memory.new ≡ sent_memory self frame memory.old }
     {
         if self.count < PLACES {
-            return self.placed(frame, memory);
+            self.placed(frame, memory)
+        } else {
+            self
         }
-        self
     }
 
     fn placed(mut self, frame: Frame, memory: &mut [u8; MEMORY]) -> Link
@@ -50,10 +59,11 @@ impl Link {
         ensures memory_after { memory.new ≡ with_bytes self frame memory.old }
     {
         let at = place(self.first, self.count);
-        let bytes = frame.bytes;
-        place::write(memory, start(at), &bytes);
-        self.lengths[at] = frame.length;
-        self.to_sender[at] = frame.to_sender;
+        place::write(memory, start(at), &frame.bytes);
+        self.heads[at] = Head {
+            way: frame.way,
+            length: frame.length,
+        };
         self.count += 1;
         self
     }
@@ -63,12 +73,11 @@ impl Link {
         ensures { result ≡ frame_under_way self memory.now 0 }
     {
         let at = place(self.first, 0);
-        let lengths = self.lengths;
-        let to_sender = self.to_sender;
+        let head = self.heads[at];
         Frame {
-            to_sender: to_sender[at],
+            way: head.way,
             bytes: kept(at, memory),
-            length: lengths[at],
+            length: head.length,
         }
     }
 
@@ -89,7 +98,7 @@ impl Link {
 fn place(first: usize, i: usize) -> usize
     ensures { (result ≡ (first + i) % places) × (result < places) }
 {
-    std::num::wrapping_add_usize(first, i) % PLACES
+    first.wrapping_add(i) % PLACES
 }
 
 // Where the bytes at a place begin.

@@ -1,18 +1,30 @@
 // What the link does to the frames.
-ghost use Rattle.std.specs.Prelude.{◌≡◌, slice_index};
-ghost use Rattle.link.specs.Scripts.{letter_of, used_up, after_sending, is_letter, all_letters};
+ghost use Rattle.std.specs.Prelude.{◌≡◌};
+ghost use Rattle.link.specs.Scripts.{letter_said, letter_of, used_up, after_sending, is_letter, all_letters};
 
 // A frame passes, is lost, or is repeated; silence is told.
-pub const PASS: u8 = b'p';
+#[derive(Clone, Copy, PartialEq, Eq)]
+pub enum Letter {
+    Pass,
+    Lose,
+    Repeat,
+    Silence,
+}
 
-pub const LOSE: u8 = b'l';
-
-pub const REPEAT: u8 = b'r';
-
-pub const SILENCE: u8 = b's';
-
-// No letter is left.
-pub const NONE: u8 = 0;
+impl Letter {
+    // What a byte of a script says.
+    fn said(b: u8) -> Option<Letter>
+        ensures { result ≡ letter_said b }
+    {
+        match b {
+            b'p' => Some(Letter::Pass),
+            b'l' => Some(Letter::Lose),
+            b'r' => Some(Letter::Repeat),
+            b's' => Some(Letter::Silence),
+            _ => None,
+        }
+    }
+}
 
 // The letters from `at` to `end` of the word are not used up.
 #[derive(Clone, Copy)]
@@ -22,25 +34,23 @@ pub struct Script {
 }
 
 impl Script {
-    // The next letter.
-    pub fn next(self, letters: &[u8]) -> u8
+    // The next letter, if one is left.
+    pub fn next(self, letters: &[u8]) -> Option<Letter>
         ensures { result ≡ letter_of self letters.now }
     {
         if self.at < self.end {
-            return letter_at(letters, self.at);
+            Letter::said(*letters.get(self.at)?)
+        } else {
+            None
         }
-        NONE
     }
 
     // The next letter is used up.
-    pub fn after(self) -> Script
+    pub fn after(mut self) -> Script
         ensures { result ≡ used_up self }
     {
         if self.at < self.end {
-            return Script {
-                at: self.at + 1,
-                end: self.end,
-            };
+            self.at += 1;
         }
         self
     }
@@ -49,10 +59,11 @@ impl Script {
     pub fn after_sending(self, letters: &[u8]) -> Script
         ensures { result ≡ after_sending self letters.now }
     {
-        if self.next(letters) == SILENCE {
-            return self;
+        if self.next(letters) == Some(Letter::Silence) {
+            self
+        } else {
+            self.after()
         }
-        self.after()
     }
 }
 
@@ -60,37 +71,11 @@ impl Script {
 pub fn is_script(letters: &[u8]) -> bool
     ensures { result ≡ all_letters letters.now }
 {
-    let mut i = 0;
-    while i < letters.len() {
-        if !is_letter(letters[i]) {
-            return false;
-        }
-        i += 1;
-    }
-    true
+    letters.iter().all(|b| is_letter(*b))
 }
 
 fn is_letter(b: u8) -> bool
     ensures { result ≡ is_letter b }
 {
-    if b == PASS {
-        return true;
-    }
-    if b == LOSE {
-        return true;
-    }
-    if b == REPEAT {
-        return true;
-    }
-    b == SILENCE
-}
-
-// The letter at a place; NONE past the end.
-fn letter_at(letters: &[u8], at: usize) -> u8
-    ensures { result ≡ slice_index letters.now at }
-{
-    if at < letters.len() {
-        return letters[at];
-    }
-    NONE
+    matches!(b, b'p' | b'l' | b'r' | b's')
 }

@@ -32,15 +32,10 @@ fn after_packet(t: Transfer, packet: &[u8], area: &mut [u8]) -> Transfer
     ensures { (result ≡ after_packet t packet.now area.old) ×
         (area.new ≡ area_with t packet.now area.old) }
 {
-    let leg = t.leg;
-    let progress = t.progress;
-    let image = t.image;
-    let check = t.check;
     Transfer {
-        leg: numbered_on(leg),
-        progress: progress.store(packet, area),
-        image,
-        check,
+        leg: numbered_on(t.leg),
+        progress: t.progress.store(packet, area),
+        ..t
     }
 }
 
@@ -48,15 +43,14 @@ fn numbered_on(leg: Leg) -> Leg
     requires { leg.next < max_next }
     ensures { result ≡ numbered_on leg }
 {
-    let phase = leg.phase;
     Leg {
-        phase,
-        channel: leg.channel,
-        agreed: leg.agreed,
         next: leg.next + 1,
+        ..leg
     }
 }
 
+// The state stays the wire's byte: `state_fd`, which the claims about FD name, gives it.
+#[tactic(auto, unfolding(crate::specs::FD::state_fd))]
 fn packet_state(t: Transfer, r: RequestFD, packet: &[u8], area: &[u8]) -> u8
     ensures { result ≡ state_fd t r packet.now area.now }
 {
@@ -79,83 +73,51 @@ fn packet_state(t: Transfer, r: RequestFD, packet: &[u8], area: &[u8]) -> u8
 fn stores(t: Transfer, r: RequestFD, state: u8) -> bool
     ensures { result ≡ (eqb state granted && eqb r.number t.leg.next) }
 {
-    if state != state::GRANTED {
-        return false;
-    }
-    r.number == t.leg.next
+    state == state::GRANTED && r.number == t.leg.next
 }
 
 fn not_receiving_here(t: Transfer, r: RequestFD) -> bool
     ensures { result ≡ not_receiving_here t r }
 {
-    let leg = t.leg;
-    let phase = leg.phase;
-    if is_receiving(phase) {
-        return t.other_channel(r.channel);
-    }
-    true
+    !is_receiving(t.leg.phase) || t.other_channel(r.channel)
 }
 
 // Whether it is the packet accepted last, sent again because our reply was lost.
+#[tactic(auto, unfolding(crate::specs::FD::repeats))]
 fn repeats(t: Transfer, r: RequestFD, packet: &[u8], area: &[u8]) -> bool
     ensures { result ≡ repeats t r packet.now area.now }
 {
-    let progress = t.progress;
-    if not_one_below(t, r) {
-        return false;
-    }
-    if r.size != progress.last {
-        return false;
-    }
-    progress.is_last(packet, area)
+    one_below(t, r) && r.size == t.progress.last && t.progress.is_last(packet, area)
 }
 
 // No number is below 0.
-fn not_one_below(t: Transfer, r: RequestFD) -> bool
-    ensures { result ≡ not (eqb (r.number + 1) t.leg.next) }
+fn one_below(t: Transfer, r: RequestFD) -> bool
+    ensures { result ≡ eqb (r.number + 1) t.leg.next }
 {
-    if t.leg.next == 0 {
-        return true;
-    }
-    r.number != t.leg.next - 1
+    0 < t.leg.next && r.number == t.leg.next - 1
 }
 
 fn not_next(t: Transfer, r: RequestFD) -> bool
     ensures { result ≡ not_next t r }
 {
-    if MAX_NEXT <= t.leg.next {
-        return true;
-    }
-    r.number != t.leg.next
+    MAX_NEXT <= t.leg.next || r.number != t.leg.next
 }
 
 fn wrong_size(t: Transfer, r: RequestFD, n: usize) -> bool
     ensures { result ≡ wrong_size t r n }
 {
-    let announced = t.image.announced;
-    let stored = t.progress.stored;
-    if r.size != n {
-        return true;
-    }
-    if r.size == 0 {
-        return true;
-    }
-    if t.leg.agreed < r.size {
-        return true;
-    }
-    if announced < stored {
-        return true;
-    }
-    announced - stored < r.size
+    let left = t.image.announced.saturating_sub(t.progress.stored);
+    r.size != n || r.size == 0 || t.leg.agreed < r.size || left < r.size
 }
 
 fn crc_state(r: RequestFD, packet: &[u8]) -> u8
     ensures { result ≡ cond (wrong_crc r packet.now) bad_crc_fd granted }
 {
     if wrong_crc(r, packet) {
-        return state::FD_BAD_CRC;
+        state::FD_BAD_CRC
+    } else {
+        state::GRANTED
     }
-    state::GRANTED
 }
 
 fn wrong_crc(r: RequestFD, packet: &[u8]) -> bool

@@ -1,33 +1,18 @@
--- How many bytes at the front pass a test, as a loop counts them. Assumes nothing.
-use mathlib.Core.Path.{◌≡◌, ap, ◌∙◌}
-use mathlib.Core.Bool.{Bool, true, false, cond}
+-- How many bytes at the front pass a test. Assumes nothing.
+use borrow.Author.Tests.{ltb-false}
+use mathlib.Core.Path.{◌≡◌, refl}
+use mathlib.Core.Bool.{Bool, true, false, not, cond}
 use mathlib.Core.List.{List, [], ◌∷◌}
-use Prim.Native.Nat.{ℕ, suc, ◌+◌, ◌<◌, ◌≤◌}
-use native.Mathlib.Numerals.{add-one}
+use Prim.Native.Nat.{ℕ, suc, ◌+◌, ◌≤◌}
 use native.Mathlib.Omega.{arith}
-use lib.ListN.{length, drop, get_or, drop_of_length-le}
-use lib.Seq.{drop-cons}
+use lib.Dec.{ltb}
+use lib.ListN.{length}
+use Rattle.std.specs.Prelude.{Option, Some, None}
+use Rattle.std.specs.Option.{unwrap_or}
+use Rattle.std.specs.List.{position, position_or_len}
+use Rattle.std.proofs.lemmas.List.Recursion.{is_position_or_len}
+use Rattle.sequences.proofs.Conditionals.{of_each}
 use Rattle.phrases.specs.Spaces.{front_count}
-
-module _ (p : ℕ → Bool) (s : List ℕ) (i : ℕ) where
-  pub count-on : i < length s → p (get_or s i 0) ≡ true → i + front_count p (drop i s) ≡ i + 1 + front_count p (drop (i + 1) s)
-  unfolding front_count
-  count-on h e =
-      let here : front_count p (drop i s) ≡ suc (front_count p (drop (i + 1) s)) =
-      ap (front_count p) (drop-cons s i 0 h) ∙ simp (e, add-one i) in
-      omega arith
-
-  pub count-stops : i < length s → p (get_or s i 0) ≡ false → i + front_count p (drop i s) ≡ i
-  unfolding front_count
-  count-stops h e =
-      let here : front_count p (drop i s) ≡ 0 = ap (front_count p) (drop-cons s i 0 h) ∙ simp e in
-      omega arith
-
-  pub count-ends : length s ≤ i → i + front_count p (drop i s) ≡ i
-  unfolding front_count
-  count-ends h =
-      let here : front_count p (drop i s) ≡ 0 = ap (front_count p) (drop_of_length-le s {i = i} h) in
-      omega arith
 
 pub count-short : (p : ℕ → Bool) (s : List ℕ) → front_count p s ≤ length s
 unfolding front_count
@@ -37,3 +22,22 @@ count-short p (b ∷ s) = go (p b) (count-short p s)
     go : (x : Bool) → front_count p s ≤ length s → cond x (suc (front_count p s)) 0 ≤ suc (length s)
     go true h = omega arith
     go false h = omega arith
+
+-- ---- as std finds the first that fails it
+
+count-or-other : (x : Bool) (k : ℕ) → cond x (suc k) 0 ≡ cond (not x) 0 (1 + k)
+count-or-other true k = omega arith
+count-or-other false k = refl
+
+module _ (p : ℕ → Bool) (s : List ℕ) where
+  front-place : front_count p s ≡ position_or_len (λ (b : ℕ). not (p b)) s
+  unfolding front_count
+  front-place =
+      is_position_or_len (front_count p) (λ (b : ℕ). not (p b)) refl (λ x t. count-or-other (p x) (front_count p t)) s
+
+  pub front-found : front_count p s ≡ unwrap_or (position (λ (b : ℕ). not (p b)) s) (length s)
+  front-found =
+      let place = position_or_len (λ (b : ℕ). not (p b)) s in
+      of_each (λ (o : Option ℕ). front_count p s ≡ unwrap_or o (length s)) (ltb place (length s)) (Some place) None
+      (λ _. front-place)
+      (λ e. omega (arith, front-place, ltb-false place (length s) e, count-short p s))

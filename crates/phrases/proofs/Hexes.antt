@@ -10,7 +10,7 @@ use lib.ListN.{length, take, drop, set, get_or, length-append, length-drop}
 use lib.Seq.{take-suc, take-length, length-take-le, drop-cons, drop-drop, append_snoc, set_at}
 use Rattle.sequences.specs.Places.{written_at}
 use Rattle.sequences.proofs.Places.{written-front}
-use Rattle.phrases.specs.declared.pairs.Pairs.{Pairs}
+use Rattle.std.specs.Prelude.{Some, None, cond}
 use Rattle.phrases.specs.Spaces.{front_count, is_space, spaces}
 use Rattle.phrases.specs.Pairs.{hex_of, is_hex, is_pair, byte_of, are_pairs, bytes_in, pairs_in}
 use Rattle.phrases.proofs.Fronts.{count-short}
@@ -25,15 +25,20 @@ pub is-not : (x : Bool) → not x ≡ true → x ≡ false
 is-not true e = let z : ◌≡◌ {A = ℕ} 0 1 = cc in absurd (omega arith)
 is-not false e = refl
 
-module _ (s : List ℕ) (p : Pairs) (e : p ≡ pairs_in s) where
-  pub wrong_pairs : p.is_bad ≡ true → are_pairs s ≡ false
-  wrong_pairs bad = is-not (are_pairs s) (ap (λ (x : Pairs). x.is_bad) (sym e) ∙ bad)
+-- none, or so many
+pub wrong_pairs : (s : List ℕ) → pairs_in s ≡ None → are_pairs s ≡ false
+wrong_pairs s = go (are_pairs s)
+  where
+    go : (x : Bool) → cond x (Some (length (bytes_in s))) None ≡ None → x ≡ false
+    go true e = cc
+    go false e = refl
 
-  pub right-pairs : p.is_bad ≡ false → are_pairs s ≡ true
-  right-pairs good = is_so (are_pairs s) (ap (λ (x : Pairs). x.is_bad) (sym e) ∙ good)
-
-  pub count-pairs : p.is_bad ≡ false → p.count ≡ length (bytes_in s)
-  count-pairs good = ap (λ (x : Pairs). x.count) e ∙ simp (right-pairs good)
+pub right-pairs : (s : List ℕ) {n : ℕ} → pairs_in s ≡ Some n → (are_pairs s ≡ true) × (n ≡ length (bytes_in s))
+right-pairs s {n} = go (are_pairs s)
+  where
+    go : (x : Bool) → cond x (Some (length (bytes_in s))) None ≡ Some n → (x ≡ true) × (n ≡ length (bytes_in s))
+    go true e = (refl, cc)
+    go false e = cc
 
 -- ---- at the front
 

@@ -12,11 +12,11 @@ use Rattle.phrases.specs.Table.{command_row}
 abbrev pub message_texts : Row → Trouble → List (List ℕ)
 message_texts r Fine = []
 message_texts r Unknown = ascii "no such command" ∷ []
-message_texts r FirstNumber = ascii "number 1 is 0 to " ∷ decimal r.3 ∷ []
-message_texts r SecondNumber = ascii "number 2 is 0 to " ∷ decimal r.4 ∷ []
+message_texts r FirstNumber = ascii "number 1 is 0 to " ∷ decimal r.first ∷ []
+message_texts r SecondNumber = ascii "number 2 is 0 to " ∷ decimal r.second ∷ []
 message_texts r More = ascii "nothing is expected behind that" ∷ []
 message_texts r Digits = ascii "bytes are pairs of hexadecimal digits" ∷ []
-message_texts r Count = decimal r.5 ∷ ascii " bytes are expected" ∷ []
+message_texts r Count = decimal r.bytes ∷ ascii " bytes are expected" ∷ []
 
 -- the message about a phrase
 abbrev pub trouble_texts : Phrase → List (List ℕ)

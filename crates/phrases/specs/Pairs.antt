@@ -1,7 +1,6 @@
 -- docs/CONSOLE.md, "Lines": "A byte is two hexadecimal digits, upper or lower case, with nothing between them." "Spaces may stand before
 -- the bytes and between two of them, and at the line's end." Assumes nothing.
-use Rattle.std.specs.Prelude.{Bool, true, false, cond, not, ◌&&◌, List, [], ◌∷◌, ℕ, ◌+◌, ◌*◌, ◌-◌, ltb, leb, length}
-use Rattle.phrases.specs.declared.pairs.Pairs.{Pairs}
+use Rattle.std.specs.Prelude.{Bool, true, false, cond, Option, Some, None, ◌&&◌, List, [], ◌∷◌, ℕ, ◌+◌, ◌*◌, ◌-◌, ltb, leb, length}
 use Rattle.phrases.specs.Spaces.{is_space}
 
 -- what a hexadecimal digit says: `0` (48) to `9` (57), `A` (65) to `F` (70), `a` (97) to `f` (102); 16 for another byte
@@ -36,6 +35,6 @@ bytes_in [] = []
 bytes_in (a ∷ []) = []
 bytes_in (a ∷ b ∷ s) = cond (is_space a) (bytes_in (b ∷ s)) (byte_of a b ∷ bytes_in s)
 
--- how many there are; 0 where something else stands there
-abbrev pub pairs_in : List ℕ → Pairs
-pairs_in s = record { is_bad = not (are_pairs s); count = cond (are_pairs s) (length (bytes_in s)) 0 }
+-- how many there are, unless something else stands there
+abbrev pub pairs_in : List ℕ → Option ℕ
+pairs_in s = cond (are_pairs s) (Some (length (bytes_in s))) None

@@ -1,6 +1,6 @@
 -- docs/CONSOLE.md, "Lines" and "Bad lines": a line is a command: "its name ..; then its numbers; then its bytes", or it is bad. How long
 -- it may be, and where its bytes go, is no part of this. Assumes nothing.
-use Rattle.std.specs.Prelude.{Bool, true, false, cond, not, ◌&&◌, ◌||◌, List, [], ℕ, ltb, eqb, length, drop}
+use Rattle.std.specs.Prelude.{Bool, true, false, cond, Option, is_none, not, ◌&&◌, ◌||◌, List, [], ℕ, ltb, eqb, length, drop}
 use Rattle.phrases.specs.declared.table.Row.{Row}
 use Rattle.phrases.specs.declared.number.Number.{Number}
 use Rattle.phrases.specs.declared.phrase.Phrase.{Phrase}
@@ -9,7 +9,7 @@ use Rattle.phrases.specs.declared.phrase.Trouble.TheVariants.{Fine, Unknown, Fir
 use Rattle.phrases.specs.Table.{any_count, row_count, command_row}
 use Rattle.phrases.specs.Names.{behind_command, command_place}
 use Rattle.phrases.specs.Spaces.{spaces}
-use Rattle.phrases.specs.Numbers.{number_if}
+use Rattle.phrases.specs.Numbers.{number_if, value_of, end_of}
 use Rattle.phrases.specs.Pairs.{are_pairs, bytes_in}
 
 -- the most bytes that can be taken: more than a line of the console can have
@@ -31,22 +31,22 @@ trouble_behind_numbers expected s =
 
 -- s stands behind the name
 module _ (r : Row) (s : List ℕ) where
-  abbrev pub first_number : Number
-  first_number = number_if (ltb 0 r.2) r.3 s
+  abbrev pub first_number : Option Number
+  first_number = number_if (ltb 0 r.numbers) r.first s
 
   abbrev pub behind_first : List ℕ
-  behind_first = drop first_number.end s
+  behind_first = drop (end_of first_number) s
 
-  abbrev pub second_number : Number
-  second_number = number_if (ltb 1 r.2) r.4 behind_first
+  abbrev pub second_number : Option Number
+  second_number = number_if (ltb 1 r.numbers) r.second behind_first
 
   abbrev pub behind_numbers : List ℕ
-  behind_numbers = drop second_number.end behind_first
+  behind_numbers = drop (end_of second_number) behind_first
 
   -- "`number 1 is 0 to M`, `number 2 is 0 to M`", and then its bytes
   unfoldable pub trouble_behind_name : Trouble
   trouble_behind_name =
-      cond first_number.is_bad FirstNumber (cond second_number.is_bad SecondNumber (trouble_behind_numbers r.5 behind_numbers))
+      cond (is_none first_number) FirstNumber (cond (is_none second_number) SecondNumber (trouble_behind_numbers r.bytes behind_numbers))
 
 -- ---- what is read
 
@@ -79,7 +79,7 @@ taken bytes t = cond (is_fine t) bytes []
 -- of the command at a place, with s behind its name
 unfoldable pub phrase_behind_name : ℕ → Row → List ℕ → Phrase
 phrase_behind_name command r s =
-    phrase_with command (first_number r s).value (second_number r s).value (bytes_in (behind_numbers r s)) (trouble_behind_name r s)
+    phrase_with command (value_of (first_number r s)) (value_of (second_number r s)) (bytes_in (behind_numbers r s)) (trouble_behind_name r s)
 
 unfoldable pub bytes_behind_name : Row → List ℕ → List ℕ
 bytes_behind_name r s = taken (bytes_in (behind_numbers r s)) (trouble_behind_name r s)

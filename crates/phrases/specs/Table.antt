@@ -24,7 +24,14 @@ any_count = 65535
 abbrev pub entry : String → ℕ → ℕ → ℕ → ℕ → Row
 entry name numbers first second bytes =
     let text = ascii name in
-    record { 0 = text ++ replicate (name_size - length text) space_byte; 1 = length text; 2 = numbers; 3 = first; 4 = second; 5 = bytes }
+    record {
+      name = text ++ replicate (name_size - length text) space_byte;
+      name_length = length text;
+      numbers = numbers;
+      first = first;
+      second = second;
+      bytes = bytes;
+    }
 
 -- in the order of docs/CONSOLE.md: the controller's commands, `set` with each field of its record, the sender's commands, `sender set`
 -- with each field of its. A phase is a part of the name
@@ -103,11 +110,12 @@ sender_from = 36
 
 -- past the table's end there is nothing in a row
 abbrev pub no_row : Row
-no_row = record { 0 = replicate name_size 0; 1 = 0; 2 = 0; 3 = 0; 4 = 0; 5 = 0 }
+no_row = record { name = replicate name_size 0; name_length = 0; numbers = 0; first = 0; second = 0; bytes = 0 }
 
 -- the numbers of a row
 abbrev pub limits_of : Row → Limits
-limits_of r = record { 0 = r.1; 1 = r.2; 2 = r.3; 3 = r.4; 4 = r.5 }
+limits_of r =
+    record { name_length = r.name_length; numbers = r.numbers; first = r.first; second = r.second; bytes = r.bytes }
 
 unfoldable pub command_row : ℕ → Row
 unfolding command_table

@@ -6,32 +6,20 @@ ghost use Rattle.phrases.specs.Pairs.{hex_of, is_pair, byte_of, are_pairs, bytes
 use crate::spaces::{spaces, spaces_end};
 use sequences::part::behind;
 
-// How many there are; 0 where something else stands there.
-#[derive(Clone, Copy)]
-pub struct Pairs {
-    pub is_bad: bool,
-    pub count: usize,
-}
-
-pub fn pairs_in(s: &[u8]) -> Pairs
+// How many there are; None where something else stands there.
+pub fn pairs_in(s: &[u8]) -> Option<usize>
     ensures { result ≡ pairs_in s.now }
 {
     let mut at = spaces(s);
     let mut count = 0;
     while at < s.len() {
         if is_bad_pair(s, at) {
-            return Pairs {
-                is_bad: true,
-                count: 0,
-            };
+            return None;
         }
         at = spaces_end(s, at + 2);
         count += 1;
     }
-    Pairs {
-        is_bad: false,
-        count,
-    }
+    Some(count)
 }
 
 // Puts the bytes that s has pairs for, so many, to the front.
@@ -40,11 +28,9 @@ pub(crate) fn decode(s: &[u8], count: usize, bytes: &mut [u8])
     ensures { bytes.new ≡ written_at bytes.old 0 (bytes_in s.now) }
 {
     let mut at = spaces(s);
-    let mut i = 0;
-    while i < count {
+    for i in 0..count {
         bytes[i] = byte_at(s, at);
         at = spaces_end(s, at + 2);
-        i += 1;
     }
 }
 
@@ -53,16 +39,7 @@ fn is_bad_pair(s: &[u8], at: usize) -> bool
     ensures { result ≡ not (is_pair (drop at s.now)) }
 {
     let rest = behind(s, at);
-    if rest.len() < 2 {
-        return true;
-    }
-    if 15 < digit(rest[0]) {
-        return true;
-    }
-    if 15 < digit(rest[1]) {
-        return true;
-    }
-    false
+    rest.len() < 2 || 15 < digit(rest[0]) || 15 < digit(rest[1])
 }
 
 // The byte whose digits stand at this place.
@@ -74,27 +51,15 @@ fn byte_at(s: &[u8], at: usize) -> u8
     16 * digit(rest[0]) + digit(rest[1])
 }
 
-// What a hexadecimal digit says; 16 for another byte.
+// What a hexadecimal digit says; 16 for another byte, and no Option: `hex_of` says so.
+#[tactic(auto, unfolding(crate::specs::Pairs::hex_of))]
 fn digit(b: u8) -> u8
     ensures { result ≡ hex_of b }
 {
-    if b < b'0' {
-        return 16;
+    match b {
+        b'0'..=b'9' => b - b'0',
+        b'A'..=b'F' => b - b'A' + 10,
+        b'a'..=b'f' => b - b'a' + 10,
+        _ => 16,
     }
-    if b <= b'9' {
-        return b - b'0';
-    }
-    if b < b'A' {
-        return 16;
-    }
-    if b <= b'F' {
-        return b - b'A' + 10;
-    }
-    if b < b'a' {
-        return 16;
-    }
-    if b <= b'f' {
-        return b - b'a' + 10;
-    }
-    16
 }

@@ -44,12 +44,13 @@ pub fn read(line: &[u8], bytes: &mut [u8; BYTES]) -> Phrase
     ensures value { result ≡ phrase_of line.now }
     ensures bytes_after { bytes.new ≡ written_at bytes.old 0 (bytes_of line.now) }
 {
-    let command = place_of(line);
-    if command < ROWS {
-        let row = row_at(command);
-        return read_behind_name(command, row, behind(line, row.1), bytes);
+    match place_of(line) {
+        Some(command) => {
+            let row = row_at(command);
+            read_behind_name(command, row, behind(line, row.name_length), bytes)
+        }
+        None => troubled(ROWS, Trouble::Unknown),
     }
-    troubled(command, Trouble::Unknown)
 }
 
 // With what stands behind the name.
@@ -57,21 +58,19 @@ fn read_behind_name(command: usize, row: Row, s: &[u8], bytes: &mut [u8; BYTES])
     ensures value { result ≡ phrase_behind_name command row s.now }
     ensures bytes_after { bytes.new ≡ written_at bytes.old 0 (bytes_behind_name row s.now) }
 {
-    let first = number_if(0 < row.2, s, row.3);
-    if first.is_bad {
+    let Some(first) = number_if(0 < row.numbers, s, row.first) else {
         return troubled(command, Trouble::FirstNumber);
-    }
+    };
     let behind_first = behind(s, first.end);
-    let second = number_if(1 < row.2, behind_first, row.4);
-    if second.is_bad {
+    let Some(second) = number_if(1 < row.numbers, behind_first, row.second) else {
         return troubled(command, Trouble::SecondNumber);
-    }
+    };
     let behind_numbers = behind(behind_first, second.end);
     read_behind_numbers(
         command,
         first.value,
         second.value,
-        row.5,
+        row.bytes,
         behind_numbers,
         bytes,
     )
@@ -96,27 +95,20 @@ fn read_behind_numbers(
         }
         return fine(command, first, second, 0);
     }
-    let pairs = pairs_in(s);
-    if pairs.is_bad {
+    let Some(count) = pairs_in(s) else {
         return troubled(command, Trouble::Digits);
-    }
-    if is_bad_count(expected, pairs.count) {
+    };
+    if is_bad_count(expected, count) {
         return troubled(command, Trouble::Count);
     }
-    decode(s, pairs.count, bytes);
-    fine(command, first, second, pairs.count)
+    decode(s, count, bytes);
+    fine(command, first, second, count)
 }
 
 fn is_bad_count(expected: usize, count: usize) -> bool
     ensures { result ≡ is_bad_count expected count }
 {
-    if BYTES < count {
-        return true;
-    }
-    if expected == ANY {
-        return false;
-    }
-    count != expected
+    BYTES < count || (expected != ANY && count != expected)
 }
 
 fn fine(command: usize, first: usize, second: usize, count: usize) -> Phrase

@@ -70,76 +70,95 @@ const NAMES: [u8; ROWS * NAME] = *b"room                     \
 
 // The name's length; how many numbers, and the most of each; how many bytes.
 #[derive(Clone, Copy)]
-pub struct Limits(pub usize, pub usize, pub usize, pub usize, pub usize);
+pub struct Limits {
+    pub name_length: usize,
+    pub numbers: usize,
+    pub first: usize,
+    pub second: usize,
+    pub bytes: usize,
+}
+
+// A line of the tables below.
+macro_rules! limits {
+    ($name_length:expr, $numbers:expr, $first:expr, $second:expr, $bytes:expr) => {
+        Limits {
+            name_length: $name_length,
+            numbers: $numbers,
+            first: $first,
+            second: $second,
+            bytes: $bytes,
+        }
+    };
+}
 
 // From `room` to `show`.
 const COMMANDS: [Limits; 13] = [
-    Limits(4, 1, 65536, 0, 0), // room
-    Limits(4, 1, 65536, 0, 0), // area
-    Limits(5, 1, 1048577, 0, 0), // image
-    Limits(10, 1, 65535, 0, ANY), // write room
-    Limits(10, 1, 65535, 0, ANY), // write area
-    Limits(11, 1, 1048576, 0, ANY), // write image
-    Limits(5, 2, 9, 1, 15), // board
-    Limits(4, 2, MAX, MAX, 0), // open
-    Limits(4, 0, 0, 0, ANY), // feed
-    Limits(5, 0, 0, 0, 0), // quiet
-    Limits(7, 1, MAX, 0, 0), // portion
-    Limits(6, 0, 0, 0, 0), // report
-    Limits(4, 0, 0, 0, 0), // show
+    limits!(4, 1, 65536, 0, 0), // room
+    limits!(4, 1, 65536, 0, 0), // area
+    limits!(5, 1, 1048577, 0, 0), // image
+    limits!(10, 1, 65535, 0, ANY), // write room
+    limits!(10, 1, 65535, 0, ANY), // write area
+    limits!(11, 1, 1048576, 0, ANY), // write image
+    limits!(5, 2, 9, 1, 15), // board
+    limits!(4, 2, MAX, MAX, 0), // open
+    limits!(4, 0, 0, 0, ANY), // feed
+    limits!(5, 0, 0, 0, 0), // quiet
+    limits!(7, 1, MAX, 0, 0), // portion
+    limits!(6, 0, 0, 0, 0), // report
+    limits!(4, 0, 0, 0, 0), // show
 ];
 
 // From `set boards` to `set register`.
 const FIELDS: [Limits; 23] = [
-    Limits(10, 1, MAX, 0, 0), // set boards
-    Limits(9, 2, 9, 1, 15), // set board
-    Limits(10, 1, MAX, 0, 0), // set opened
-    Limits(11, 1, MAX, 0, 0), // set holding
-    Limits(8, 1, 525, 0, ANY), // set held
-    Limits(14, 0, 0, 0, 0), // set phase idle
-    Limits(15, 0, 0, 0, 0), // set phase asked
-    Limits(14, 0, 0, 0, 0), // set phase told
-    Limits(19, 0, 0, 0, 0), // set phase receiving
-    Limits(14, 0, 0, 0, 0), // set phase done
-    Limits(11, 1, 255, 0, 0), // set channel
-    Limits(10, 1, MAX, 0, 0), // set agreed
-    Limits(8, 1, MAX, 0, 0), // set next
-    Limits(10, 1, MAX, 0, 0), // set stored
-    Limits(17, 1, 255, 0, 0), // set image-channel
-    Limits(11, 0, 0, 0, 3), // set version
-    Limits(13, 1, MAX, 0, 0), // set announced
-    Limits(7, 0, 0, 0, 16), // set md5
-    Limits(7, 0, 0, 0, 4), // set crc
-    Limits(8, 1, MAX, 0, 0), // set last
-    Limits(12, 1, 1, 0, 0), // set checking
-    Limits(8, 1, MAX, 0, 0), // set read
-    Limits(12, 0, 0, 0, 4), // set register
+    limits!(10, 1, MAX, 0, 0), // set boards
+    limits!(9, 2, 9, 1, 15), // set board
+    limits!(10, 1, MAX, 0, 0), // set opened
+    limits!(11, 1, MAX, 0, 0), // set holding
+    limits!(8, 1, 525, 0, ANY), // set held
+    limits!(14, 0, 0, 0, 0), // set phase idle
+    limits!(15, 0, 0, 0, 0), // set phase asked
+    limits!(14, 0, 0, 0, 0), // set phase told
+    limits!(19, 0, 0, 0, 0), // set phase receiving
+    limits!(14, 0, 0, 0, 0), // set phase done
+    limits!(11, 1, 255, 0, 0), // set channel
+    limits!(10, 1, MAX, 0, 0), // set agreed
+    limits!(8, 1, MAX, 0, 0), // set next
+    limits!(10, 1, MAX, 0, 0), // set stored
+    limits!(17, 1, 255, 0, 0), // set image-channel
+    limits!(11, 0, 0, 0, 3), // set version
+    limits!(13, 1, MAX, 0, 0), // set announced
+    limits!(7, 0, 0, 0, 16), // set md5
+    limits!(7, 0, 0, 0, 4), // set crc
+    limits!(8, 1, MAX, 0, 0), // set last
+    limits!(12, 1, 1, 0, 0), // set checking
+    limits!(8, 1, MAX, 0, 0), // set read
+    limits!(12, 0, 0, 0, 4), // set register
 ];
 
 // From `sender open` on.
 const SENDER: [Limits; 22] = [
-    Limits(11, 1, 65535, 0, 28), // sender open
-    Limits(14, 0, 0, 0, 0), // sender request
-    Limits(12, 0, 0, 0, ANY), // sender reply
-    Limits(14, 0, 0, 0, 0), // sender silence
-    Limits(11, 0, 0, 0, 0), // sender show
-    Limits(18, 1, 255, 0, 0), // sender set channel
-    Limits(14, 0, 0, 0, 8), // sender set pid
-    Limits(18, 0, 0, 0, 3), // sender set version
-    Limits(14, 0, 0, 0, 16), // sender set md5
-    Limits(15, 1, 65535, 0, 0), // sender set size
-    Limits(17, 1, MAX, 0, 0), // sender set length
-    Limits(23, 0, 0, 0, 0), // sender set phase asking
-    Limits(24, 0, 0, 0, 0), // sender set phase telling
-    Limits(24, 0, 0, 0, 0), // sender set phase placing
-    Limits(24, 0, 0, 0, 0), // sender set phase sending
-    Limits(23, 0, 0, 0, 0), // sender set phase ending
-    Limits(21, 0, 0, 0, 0), // sender set phase done
-    Limits(25, 0, 0, 0, 0), // sender set phase given-up
-    Limits(16, 1, MAX, 0, 0), // sender set place
-    Limits(17, 1, MAX, 0, 0), // sender set number
-    Limits(19, 1, MAX, 0, 0), // sender set silences
-    Limits(15, 1, MAX, 0, 0), // sender set legs
+    limits!(11, 1, 65535, 0, 28), // sender open
+    limits!(14, 0, 0, 0, 0), // sender request
+    limits!(12, 0, 0, 0, ANY), // sender reply
+    limits!(14, 0, 0, 0, 0), // sender silence
+    limits!(11, 0, 0, 0, 0), // sender show
+    limits!(18, 1, 255, 0, 0), // sender set channel
+    limits!(14, 0, 0, 0, 8), // sender set pid
+    limits!(18, 0, 0, 0, 3), // sender set version
+    limits!(14, 0, 0, 0, 16), // sender set md5
+    limits!(15, 1, 65535, 0, 0), // sender set size
+    limits!(17, 1, MAX, 0, 0), // sender set length
+    limits!(23, 0, 0, 0, 0), // sender set phase asking
+    limits!(24, 0, 0, 0, 0), // sender set phase telling
+    limits!(24, 0, 0, 0, 0), // sender set phase placing
+    limits!(24, 0, 0, 0, 0), // sender set phase sending
+    limits!(23, 0, 0, 0, 0), // sender set phase ending
+    limits!(21, 0, 0, 0, 0), // sender set phase done
+    limits!(25, 0, 0, 0, 0), // sender set phase given-up
+    limits!(16, 1, MAX, 0, 0), // sender set place
+    limits!(17, 1, MAX, 0, 0), // sender set number
+    limits!(19, 1, MAX, 0, 0), // sender set silences
+    limits!(15, 1, MAX, 0, 0), // sender set legs
 ];
 
 // The row at a place; past the table's end there is nothing in it.
@@ -148,14 +167,28 @@ pub(crate) fn row_at(i: usize) -> Row
 {
     if i < ROWS {
         let limits = limits_at(i);
-        return Row(name_at(i), limits.0, limits.1, limits.2, limits.3, limits.4);
+        return Row {
+            name: name_at(i),
+            name_length: limits.name_length,
+            numbers: limits.numbers,
+            first: limits.first,
+            second: limits.second,
+            bytes: limits.bytes,
+        };
     }
-    Row([0; NAME], 0, 0, 0, 0, 0)
+    Row {
+        name: [0; NAME],
+        name_length: 0,
+        numbers: 0,
+        first: 0,
+        second: 0,
+        bytes: 0,
+    }
 }
 
 pub(crate) fn name_at(i: usize) -> [u8; NAME]
     requires { i < row_count }
-    ensures { result ≡ (command_row i).0 }
+    ensures { result ≡ (command_row i).name }
 {
     let names = NAMES;
     let mut name = [0; NAME];

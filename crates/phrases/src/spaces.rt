@@ -1,6 +1,7 @@
 // Spaces between the parts of a line.
-ghost use Rattle.std.specs.Prelude.{◌≡◌, ◌+◌, drop};
-ghost use Rattle.phrases.specs.Spaces.{spaces};
+ghost use Rattle.std.specs.Prelude.{◌≡◌, ◌+◌, not, drop};
+ghost use Rattle.std.specs.List.{position};
+ghost use Rattle.phrases.specs.Spaces.{is_space, spaces};
 
 use sequences::part::behind;
 
@@ -8,14 +9,14 @@ use sequences::part::behind;
 pub fn spaces(s: &[u8]) -> usize
     ensures { result ≡ spaces s.now }
 {
-    let mut i = 0;
-    while i < s.len() {
-        if s[i] != b' ' {
-            return i;
-        }
-        i += 1;
-    }
-    i
+    first_other(s).unwrap_or(s.len())
+}
+
+// The place of the first other byte.
+fn first_other(s: &[u8]) -> Option<usize>
+    ensures { result ≡ position (λ b. not (is_space b)) s.now }
+{
+    s.iter().position(|b| *b != b' ')
 }
 
 // The place behind those that stand from place `at` on.

@@ -11,14 +11,14 @@ pub const ROWS: usize = 58;
 // A command: its name, filled up with spaces, and the name's length; how many numbers it takes, and the most that each can be; how many
 // bytes (0: none).
 #[derive(Clone, Copy)]
-pub struct Row(
-    pub [u8; NAME],
-    pub usize,
-    pub usize,
-    pub usize,
-    pub usize,
-    pub usize,
-);
+pub struct Row {
+    pub name: [u8; NAME],
+    pub name_length: usize,
+    pub numbers: usize,
+    pub first: usize,
+    pub second: usize,
+    pub bytes: usize,
+}
 
 // The place of each command.
 pub const ROOM: usize = 0;

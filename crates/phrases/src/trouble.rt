@@ -7,35 +7,34 @@ ghost use Rattle.phrases.specs.Messages.{trouble_texts};
 
 use crate::phrase::{Phrase, Trouble};
 use crate::rows::row_at;
-use text::output::{Output, SIZE};
+use text::output::Output;
 
-// Puts the message of docs/CONSOLE.md, without the line's number, `bad` and the newline; nothing where there is no trouble.
-pub fn tell(output: Output, phrase: Phrase, out: &mut [u8; SIZE]) -> Output
-    ensures { TextsAdded output (trouble_texts phrase) out.old result out.new }
+// Adds the message of docs/CONSOLE.md, without the line's number, `bad` and the newline; nothing where there is no trouble.
+pub fn tell(output: &mut Output, phrase: Phrase)
+    ensures { TextsAdded output.old (trouble_texts phrase) output.new }
 {
     let row = row_at(phrase.command);
-    let trouble = phrase.trouble;
-    match trouble {
-        Trouble::Fine => output,
-        Trouble::Unknown => output.text(b"no such command", out),
-        Trouble::FirstNumber => number(output, b"number 1 is 0 to ", row.3, out),
-        Trouble::SecondNumber => number(output, b"number 2 is 0 to ", row.4, out),
-        Trouble::More => output.text(b"nothing is expected behind that", out),
-        Trouble::Digits => output.text(b"bytes are pairs of hexadecimal digits", out),
-        Trouble::Count => count(output, row.5, out),
+    match phrase.trouble {
+        Trouble::Fine => {}
+        Trouble::Unknown => output.text(b"no such command"),
+        Trouble::FirstNumber => number(output, b"number 1 is 0 to ", row.first),
+        Trouble::SecondNumber => number(output, b"number 2 is 0 to ", row.second),
+        Trouble::More => output.text(b"nothing is expected behind that"),
+        Trouble::Digits => output.text(b"bytes are pairs of hexadecimal digits"),
+        Trouble::Count => count(output, row.bytes),
     }
 }
 
-fn number(output: Output, range: &[u8], most: usize, out: &mut [u8; SIZE]) -> Output
-    ensures { TextsAdded output (range.now ∷ decimal most ∷ []) out.old result out.new }
+fn number(output: &mut Output, range: &[u8], most: usize)
+    ensures { TextsAdded output.old (range.now ∷ decimal most ∷ []) output.new }
 {
-    output.text(range, &mut *out).decimal(most as u64, out)
+    output.text(range);
+    output.decimal(most as u64);
 }
 
-fn count(output: Output, expected: usize, out: &mut [u8; SIZE]) -> Output
-    ensures { TextsAdded output (decimal expected ∷ ascii " bytes are expected" ∷ []) out.old result out.new }
+fn count(output: &mut Output, expected: usize)
+    ensures { TextsAdded output.old (decimal expected ∷ ascii " bytes are expected" ∷ []) output.new }
 {
-    output
-        .decimal(expected as u64, &mut *out)
-        .text(b" bytes are expected", out)
+    output.decimal(expected as u64);
+    output.text(b" bytes are expected");
 }

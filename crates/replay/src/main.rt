@@ -18,69 +18,49 @@ use bench::AREA;
 use capture::run::{INPUT, Run};
 use capture::stage::Stage;
 use std::io::Stdin;
-use text::output::SIZE;
-
-// Standard error's descriptor.
-const STDERR: i32 = 2;
+use text::complaint::say;
+use text::output::Output;
 
 fn main(rt: HostRuntime) {
     let mut area = io::large_buffer();
     let mut input = io::large_buffer();
-    let mut output = io::large_buffer();
+    let mut output = Output::empty();
     let run = replay(rt.stdin(), &mut input, &mut output, &mut area);
     report(run, &mut output);
 }
 
-// Turns until the run is over. A proved loop has to end, and nothing says that the input does: the turns are counted down from a
-// number that no run uses up.
-fn replay(
-    stdin: Stdin,
-    input: &mut [u8; INPUT],
-    output: &mut [u8; SIZE],
-    area: &mut [u8; AREA],
-) -> Run
+// Turns until the run is over. A proved loop has to end, and nothing says that the input does: the turns are counted up to a
+// number that no run comes to.
+fn replay(stdin: Stdin, input: &mut [u8; INPUT], output: &mut Output, area: &mut [u8; AREA]) -> Run
     ensures { Replayed
         (record { run = start_run fresh; input = input.old; output = output.old; area = area.old })
         (record { run = result; input = input.new; output = output.new; area = area.new }) }
 {
     let mut run = Run::start(bench::open());
-    let mut turns = u64::MAX;
-    while turns > 0 {
-        if run.is_over() {
+    for _ in 0..u64::MAX {
+        if run.is_over(output) {
             return run;
         }
-        run = run.turn(stdin, &mut *input, &mut *output, &mut *area);
-        turns -= 1;
+        run = run.turn(stdin, input, output, area);
     }
     run
 }
 
 // What is left to say once the run is over. After a failed write this writes nothing more.
-fn report(run: Run, output: &mut [u8; SIZE]) {
-    let stage = run.stage;
-    if read_failed(stage) {
-        complain(b"replay: cannot read standard input\n");
+fn report(run: Run, output: &mut Output) {
+    if read_failed(run.stage) {
+        say(b"replay: cannot read standard input\n");
         return;
     }
-    let account = run.account;
-    let written = account.end(&mut *output).flush(output);
-    if written.failed {
-        complain(b"replay: cannot write to standard output\n");
+    run.account.end(output);
+    output.flush();
+    if output.failed {
+        say(b"replay: cannot write to standard output\n");
     }
 }
 
 fn read_failed(stage: Stage) -> bool
     ensures { result ≡ read_failed stage }
 {
-    match stage {
-        Stage::Feeding => false,
-        Stage::Quiet => false,
-        Stage::Ended => false,
-        Stage::ReadFailed => true,
-    }
-}
-
-// Where standard error fails too there is nobody to tell.
-fn complain(message: &[u8]) {
-    io::write_all(STDERR, message);
+    matches!(stage, Stage::ReadFailed)
 }

@@ -1,5 +1,5 @@
 // The data of the controller's replies, and a reply as a frame. Data comes in an array of the longest reply's size, zeros past it.
-ghost use Rattle.std.specs.Prelude.{◌≡◌};
+ghost use Rattle.std.specs.Prelude.{◌≡◌, ◌≤◌};
 ghost use Rattle.sequences.specs.Padding.{padded, zeros};
 ghost use Rattle.commands.specs.Limits.{max_reply};
 ghost use Rattle.replies.specs.Replies.{reply_fa, reply_fb, reply_fc, reply_state, ReplyWritten};
@@ -15,62 +15,51 @@ pub fn none() -> [u8; MAX_REPLY]
     [0; MAX_REPLY]
 }
 
+#[tactic(auto, unfolding(crate::specs::Replies::reply_fa))]
 pub fn fa(channel: u8, flag: u8, version: [u8; 3]) -> [u8; MAX_REPLY]
     ensures { result ≡ padded max_reply (reply_fa channel flag version) }
 {
-    let len2 = bytes16(MAX_PACKET);
-    let mut d = none();
-    d[0] = channel;
-    d[1] = flag;
-    d[2] = version[0];
-    d[3] = version[1];
-    d[4] = version[2];
-    d[5] = len2[0];
-    d[6] = len2[1];
-    d
+    let [first, second, third] = version;
+    let [high, low] = bytes16(MAX_PACKET);
+    padded([channel, flag, first, second, third, high, low])
 }
 
 // The MD5 field is not used by the maker: zeros.
+#[tactic(auto, unfolding(crate::specs::Replies::reply_fb))]
 pub fn fb(channel: u8, state: u8, stored: usize, crc: u32) -> [u8; MAX_REPLY]
     ensures { result ≡ padded max_reply (reply_fb channel state stored crc) }
 {
     let s = bytes32(stored);
     let c = bytes32(crc as usize);
-    let mut d = none();
-    d[0] = channel;
-    d[1] = state;
-    d[2] = s[0];
-    d[3] = s[1];
-    d[4] = s[2];
-    d[5] = s[3];
-    d[6] = c[0];
-    d[7] = c[1];
-    d[8] = c[2];
-    d[9] = c[3];
-    d
+    padded([
+        channel, state, s[0], s[1], s[2], s[3], c[0], c[1], c[2], c[3],
+    ])
 }
 
+#[tactic(auto, unfolding(crate::specs::Replies::reply_fc))]
 pub fn fc(channel: u8, offset: usize) -> [u8; MAX_REPLY]
     ensures { result ≡ padded max_reply (reply_fc channel offset) }
 {
     let o = bytes32(offset);
-    let mut d = none();
-    d[0] = channel;
-    d[1] = o[0];
-    d[2] = o[1];
-    d[3] = o[2];
-    d[4] = o[3];
-    d
+    padded([channel, o[0], o[1], o[2], o[3]])
 }
 
 // FD's and FE's reply.
+#[tactic(auto, unfolding(crate::specs::Replies::reply_state))]
 pub fn state(channel: u8, state: u8) -> [u8; MAX_REPLY]
     ensures { result ≡ padded max_reply (reply_state channel state) }
 {
-    let mut d = none();
-    d[0] = channel;
-    d[1] = state;
-    d
+    padded([channel, state])
+}
+
+// These bytes, and zeros past them.
+fn padded<const N: usize>(bytes: [u8; N]) -> [u8; MAX_REPLY]
+    requires { N ≤ max_reply }
+    ensures { result ≡ padded max_reply bytes.entry }
+{
+    let mut data = none();
+    data[..N].copy_from_slice(&bytes);
+    data
 }
 
 // Writes the reply to a command to the front of room and gives its size. A command that has no reply gives 0 and writes nothing, and

@@ -43,16 +43,10 @@ pub fn is_reply(command: u8, s: &[u8]) -> bool
     ensures { result ≡ is_reply command s.now }
 {
     let row = table::row_of(command);
-    if buffer::alone(s) {
-        if buffer::command(s) != command {
-            return false;
-        }
-        if buffer::version(s) != row.reply_version {
-            return false;
-        }
-        return buffer::data(s).len() == row.reply_length;
-    }
-    false
+    buffer::alone(s)
+        && buffer::command(s) == command
+        && buffer::version(s) == row.reply_version
+        && buffer::data(s).len() == row.reply_length
 }
 
 // Every reply begins with the channel.
@@ -62,6 +56,7 @@ pub fn channel(d: &[u8]) -> u8
     byte(d, 0)
 }
 
+#[tactic(auto, unfolding(crate::specs::ReplyFields::fields_fa))]
 pub fn fa(d: &[u8]) -> ReplyFA
     ensures { result ≡ fields_fa d.now }
 {
@@ -72,6 +67,7 @@ pub fn fa(d: &[u8]) -> ReplyFA
     }
 }
 
+#[tactic(auto, unfolding(crate::specs::ReplyFields::fields_fb))]
 pub fn fb(d: &[u8]) -> ReplyFB
     ensures { result ≡ fields_fb d.now }
 {
@@ -83,6 +79,7 @@ pub fn fb(d: &[u8]) -> ReplyFB
     }
 }
 
+#[tactic(auto, unfolding(crate::specs::ReplyFields::fields_fc))]
 pub fn fc(d: &[u8]) -> ReplyFC
     ensures { result ≡ fields_fc d.now }
 {
@@ -92,6 +89,7 @@ pub fn fc(d: &[u8]) -> ReplyFC
     }
 }
 
+#[tactic(auto, unfolding(crate::specs::ReplyFields::fields_state))]
 pub fn state(d: &[u8]) -> ReplyState
     ensures { result ≡ fields_state d.now }
 {
@@ -104,5 +102,5 @@ pub fn state(d: &[u8]) -> ReplyState
 fn byte(d: &[u8], i: usize) -> u8
     ensures { result ≡ get_or d.now i 0 }
 {
-    if i < d.len() { d[i] } else { 0 }
+    d.get(i).copied().unwrap_or(0)
 }

@@ -1,11 +1,11 @@
 // The fields of the module's requests, read from a frame's data. Every request but F9 begins with the channel.
-ghost use Rattle.std.specs.Prelude.{◌≡◌, ◌+◌};
+ghost use Rattle.std.specs.Prelude.{◌≡◌, ◌+◌, ◌≤◌};
+ghost use Rattle.fronts.specs.Frame.{max_data};
 ghost use Rattle.sequences.specs.Fields.{field_at};
 ghost use Rattle.requests.specs.Requests.{channel_of, request_fa, request_fb, request_fc, request_fd, packet_of, packet_place};
 
 use fronts::MAX_DATA;
 use sequences::number::{number16, number32};
-use sequences::place;
 
 // FA: may an image be sent, in packets of at most `len1` bytes?
 #[derive(Clone, Copy)]
@@ -61,6 +61,7 @@ pub fn channel(d: &[u8; MAX_DATA]) -> u8
     d[0]
 }
 
+#[tactic(auto, unfolding(crate::specs::Requests::request_fa))]
 pub fn fa(d: &[u8; MAX_DATA]) -> RequestFA
     ensures { result ≡ request_fa d.now }
 {
@@ -70,22 +71,21 @@ pub fn fa(d: &[u8; MAX_DATA]) -> RequestFA
     }
 }
 
+#[tactic(auto, unfolding(crate::specs::Requests::request_fb))]
 pub fn fb(d: &[u8; MAX_DATA]) -> RequestFB
     ensures { result ≡ request_fb d.now }
 {
-    let pid = pid_in(d);
-    let version = version_in(d);
-    let md5 = md5_in(d);
     RequestFB {
         channel: d[0],
-        pid,
-        version,
-        md5,
+        pid: field(d, PID),
+        version: field(d, VERSION),
+        md5: field(d, MD5),
         length: number32(d[LENGTH], d[LENGTH + 1], d[LENGTH + 2], d[LENGTH + 3]),
         crc: number32(d[CRC], d[CRC + 1], d[CRC + 2], d[CRC + 3]) as u32,
     }
 }
 
+#[tactic(auto, unfolding(crate::specs::Requests::request_fc))]
 pub fn fc(d: &[u8; MAX_DATA]) -> RequestFC
     ensures { result ≡ request_fc d.now }
 {
@@ -95,6 +95,7 @@ pub fn fc(d: &[u8; MAX_DATA]) -> RequestFC
     }
 }
 
+#[tactic(auto, unfolding(crate::specs::Requests::request_fd))]
 pub fn fd(d: &[u8; MAX_DATA]) -> RequestFD
     ensures { result ≡ request_fd d.now }
 {
@@ -111,36 +112,18 @@ pub fn packet(d: &[u8; MAX_DATA], length: usize) -> &[u8]
     ensures result_value { result.now ≡ packet_of length d.now }
     ensures ref_ptr_value { (result.ref_ptr.0 ≡ d.entry.ref_ptr.0) × (result.ref_ptr.1 ≡ packet_place length + d.entry.ref_ptr.1) }
 {
-    let all: &[u8] = d;
-    if length < PACKET {
-        return &all[..0];
+    if length < PACKET || MAX_DATA < length {
+        return &d[..0];
     }
-    if MAX_DATA < length {
-        return &all[..0];
-    }
-    &all[PACKET..length]
+    &d[PACKET..length]
 }
 
-fn pid_in(d: &[u8; MAX_DATA]) -> [u8; 8]
-    ensures { result ≡ field_at 1 8 d.now }
+// The bytes of a field that begins at this place.
+fn field<const N: usize>(d: &[u8; MAX_DATA], at: usize) -> [u8; N]
+    requires { at + N ≤ max_data }
+    ensures { result ≡ field_at at N d.now }
 {
-    let mut pid = [0u8; 8];
-    place::copy_out(d, PID, &mut pid);
-    pid
-}
-
-fn version_in(d: &[u8; MAX_DATA]) -> [u8; 3]
-    ensures { result ≡ field_at 9 3 d.now }
-{
-    let mut version = [0u8; 3];
-    place::copy_out(d, VERSION, &mut version);
-    version
-}
-
-fn md5_in(d: &[u8; MAX_DATA]) -> [u8; 16]
-    ensures { result ≡ field_at 12 16 d.now }
-{
-    let mut md5 = [0u8; 16];
-    place::copy_out(d, MD5, &mut md5);
-    md5
+    let mut bytes = [0; N];
+    bytes.copy_from_slice(&d[at..at + N]);
+    bytes
 }

@@ -1,7 +1,6 @@
 -- The claim about every call of the sender. Assumes nothing.
 use mathlib.Core.Path.{◌≡◌, refl, ap}
 use mathlib.Core.Bool.{Bool, false, ◌||◌}
-use native.Mathlib.Omega.{arith}
 use Rattle.sequences.proofs.Conditionals.{of_each}
 use Rattle.sender.specs.declared.sender.Offer.{Offer}
 use Rattle.sender.specs.declared.opening.Opened.{Opened}
@@ -22,7 +21,7 @@ module _ (o : Offer) where
   open_lawful : (opened_sender o).outcome ≡ accepted → breaks_rules (opened_sender o).sender ≡ false
   unfolding opened_sender
   open_lawful =
-      of_each (λ (x : Opened). x.outcome ≡ accepted → breaks_rules x.sender ≡ false) (bad_offer o) _ _ (λ e z. absurd (omega arith))
+      of_each (λ (x : Opened). x.outcome ≡ accepted → breaks_rules x.sender ≡ false) (bad_offer o) _ _ (λ e z. absurd cc)
       (λ e z. fresh-lawful e)
 
   open_none : ((opened_sender o).outcome ≡ accepted → ⊥) → (opened_sender o).sender ≡ no_sender

@@ -19,7 +19,7 @@ use Rattle.sender.specs.declared.decision.Decision.{Decision}
 use Rattle.sender.specs.declared.decision.Decision.TheVariants.{Nothing, GoOn, SendAgain, NewLeg, Done, GivenUp}
 use Rattle.sender.specs.declared.decision.Decided.{Decided}
 use Rattle.sender.specs.declared.sender.Sender.{Sender}
-use Rattle.commands.specs.Outcomes.{accepted}
+use Rattle.commands.specs.Outcomes.{accepted, same_outcome}
 use Rattle.sender.specs.Phases.{is_final, command_of}
 use Rattle.sender.specs.Senders.{max_silences, max_legs, next_size, begun, again}
 use Rattle.sender.specs.Decisions.{decided, go_on, given_up, leg_over}
@@ -30,6 +30,7 @@ use Rattle.sender.specs.Deciding.{Heard, StepGranted, ImageRefused, LegRefused, 
 use Rattle.sender.proofs.Phases.{of_phase, open_choice}
 use Rattle.sender.proofs.RulesKept.{lawful}
 use Rattle.sender.proofs.Refusals.{not-refused}
+use Rattle.commands.proofs.Outcomes.{same-true}
 use Rattle.sender.proofs.Hearings.{
   heard,
   asking-granted,
@@ -166,9 +167,9 @@ module _ (s : Sender) (image b : List ℕ) where
   unfolding after_reply judged_in
   reply-means =
       let refusal = sender_refusal s (length image) in
-      of_each Means (eqb refusal accepted) _ _
+      of_each Means (same_outcome refusal accepted) _ _
       (λ e.
-      let taken = eqb-true refusal accepted e in
+      let taken = same-true refusal accepted e in
       of_each Means (own_reply s b) _ _
       (λ own.
       let h : (p : Phase) → s.position.phase ≡ p → Heard p (command_of p) s image b = λ p is. heard s image b p taken is own in
@@ -236,9 +237,9 @@ module _ (s : Sender) (n : ℕ) where
   unfolding after_silence silent_in
   silence-means =
       let refusal = sender_refusal s n in
-      of_each MeansSilent (eqb refusal accepted) _ _
+      of_each MeansSilent (same_outcome refusal accepted) _ _
       (λ e.
-      let taken = eqb-true refusal accepted e in
+      let taken = same-true refusal accepted e in
       let u : (p : Phase) → is_final p ≡ false → s.position.phase ≡ p → MeansSilent (unheard s) =
       λ p goes is. unheard-means (record { taken = taken; unended = ap is_final is ∙ goes }) in
       of_phase MeansSilent s.position.phase _ _ _ _ _ _ _ (u phase.Asking refl) (u phase.Telling refl) (u phase.Placing refl)
@@ -320,13 +321,13 @@ module _ (s : Sender) where
   reply-leaves : (image b : List ℕ) → Leaves (after_reply s image b)
   unfolding after_reply
   reply-leaves image b =
-      of-both Leaves (eqb (sender_refusal s (length image)) accepted) _ _
+      of-both Leaves (same_outcome (sender_refusal s (length image)) accepted) _ _
       (of-both Leaves (own_reply s b) _ _ (judged-leaves (data_at b) image) refl) refl
 
   silence-leaves : (n : ℕ) → is_final s.position.phase ≡ false → Leaves (after_silence s n)
   unfolding after_silence silent_in unheard
   silence-leaves n goes =
-      of-both Leaves (eqb (sender_refusal s n) accepted) _ _
+      of-both Leaves (same_outcome (sender_refusal s n) accepted) _ _
       (subst Leaves (sym (open_choice s.position.phase (unheard s) _ _ goes))
       (of-both Leaves (ltb s.tries.silences max_silences) _ _ (refl, refl) leg_over_leaves)) refl
 

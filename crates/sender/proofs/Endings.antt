@@ -23,7 +23,8 @@ use Rattle.sender.specs.declared.decision.Decision.{Decision}
 use Rattle.sender.specs.declared.decision.Decision.TheVariants as decision
 use Rattle.sender.specs.declared.decision.Decided.{Decided}
 use Rattle.sender.specs.declared.sender.Sender.{Sender}
-use Rattle.commands.specs.Outcomes.{accepted, wrong_reply}
+use Rattle.commands.specs.declared.outcome.Outcome.{Outcome}
+use Rattle.commands.specs.Outcomes.{accepted, wrong_reply, same_outcome}
 use Rattle.sender.specs.Phases.{by_phase, is_final}
 use Rattle.sender.specs.Senders.{max_silences, max_legs, next_size, moved_to}
 use Rattle.sender.specs.Decisions.{nothing_decided, decided, go_on, done, given_up, leg_over}
@@ -31,6 +32,7 @@ use Rattle.sender.specs.Requests.{sender_refusal}
 use Rattle.sender.specs.Replies.{own_reply, judged_fa, judged_fb, judged_fc, judged_fd, judged_fe, resume_at, onward, judged_in, after_reply}
 use Rattle.sender.specs.Silences.{unheard, silent_in, after_silence}
 use Rattle.sender.specs.Kept.{EndGranted}
+use Rattle.commands.proofs.Outcomes.{same-true}
 use Rattle.sender.proofs.Phases.{of_phase, final_choice}
 use Rattle.sender.proofs.Grants.{end_done}
 use Rattle.sender.proofs.Hearings.{heard}
@@ -52,13 +54,13 @@ over-replied s image b over ok = rw ok (judged-over s image b over)
 over-stays : (s : Sender) (image b : List ℕ) → is_final s.position.phase ≡ true → (after_reply s image b).next ≡ s
 unfolding after_reply
 over-stays s image b over =
-    of-both (λ (d : Decided). d.next ≡ s) (eqb (sender_refusal s (length image)) accepted) _ _
+    of-both (λ (d : Decided). d.next ≡ s) (same_outcome (sender_refusal s (length image)) accepted) _ _
     (ap (λ (d : Decided). d.next) (judged-over s image b over)) refl
 
 pub over-silent : (s : Sender) (n : ℕ) → is_final s.position.phase ≡ true → (after_silence s n).next ≡ s
 unfolding after_silence silent_in
 over-silent s n over =
-    of-both (λ (d : Decided). d.next ≡ s) (eqb (sender_refusal s n) accepted) _ _
+    of-both (λ (d : Decided). d.next ≡ s) (same_outcome (sender_refusal s n) accepted) _ _
     (go s.position.phase over) refl
   where
     u : Decided
@@ -79,7 +81,7 @@ module _ (s : Sender) where
   abbrev Undone : Decided → Type 0
   Undone d = (d.next.position.phase ≡ Done → s.position.phase ≡ Done) × (d.decision ≡ decision.Done → ⊥)
 
-  refused-undone : (k : ℕ) → Undone (nothing_decided s k)
+  refused-undone : (k : Outcome) → Undone (nothing_decided s k)
   refused-undone k = (λ e. e, λ e. let z : ◌≡◌ {A = ℕ} 0 1 = cc in omega arith)
 
   -- a decision and a phase that are not done
@@ -173,7 +175,7 @@ module _ (s : Sender) where
       let refusal = sender_refusal s (length image) in
       let P : Decided → Type 0 = Earned image b in
       let stays = undone-earned image b (nothing_decided s wrong_reply) (refused-undone wrong_reply) in
-      of_each P (eqb refusal accepted) _ _
+      of_each P (same_outcome refusal accepted) _ _
       (λ taken.
       of_each P (own_reply s b) _ _
       (λ own.
@@ -185,7 +187,7 @@ module _ (s : Sender) where
       of_phase P s.position.phase fa fb fc fd (judged_fe s (fields_state d)) wrong wrong
       (λ q. undone-earned image b fa (fa-undone (fields_fa d))) (λ q. undone-earned image b fb (fb-undone (fields_fb d) image))
       (λ q. undone-earned image b fc (fc-undone (fields_fc d))) (λ q. undone-earned image b fd (fd-undone (fields_state d)))
-      (λ q. fe-earned image b (eqb-true refusal accepted taken) q own) (λ q. stays) (λ q. stays))
+      (λ q. fe-earned image b (same-true refusal accepted taken) q own) (λ q. stays) (λ q. stays))
       (λ e. stays))
       (λ e. undone-earned image b (nothing_decided s refusal) (refused-undone refusal))
 
@@ -222,10 +224,10 @@ module _ (s : Sender) where
       let refusal = sender_refusal s n in
       let undone : (d : Decided) → Undone d → Stayed n d = λ d u. (λ e. absurd (u.1 e), u.0) in
       let u = undone (unheard s) unheard-undone in
-      of_each (Stayed n) (eqb refusal accepted) _ _
+      of_each (Stayed n) (same_outcome refusal accepted) _ _
       (λ taken.
       of_phase (Stayed n) s.position.phase _ _ _ _ _ _ _ (λ q. u) (λ q. u) (λ q. u) (λ q. u) (λ q. u)
-      (λ q. (λ e. (eqb-true refusal accepted taken, q), λ e. e))
+      (λ q. (λ e. (same-true refusal accepted taken, q), λ e. e))
       (λ q. (λ e. let z : ◌≡◌ {A = ℕ} 0 1 = cc in absurd (omega arith), λ e. e)))
       (λ e. undone (nothing_decided s refusal) (refused-undone refusal))
 

@@ -5,7 +5,7 @@ use mathlib.Core.List.{List}
 use Prim.Native.Nat.{ℕ, ◌+◌, ◌*◌, ◌-◌, ◌≤◌, ◌<◌}
 use native.Mathlib.Nat.{zero-mul, add-mul, one-mul}
 use native.Mathlib.Omega.{arith}
-use borrow.Author.Tests.{ltb-true, eqb-true}
+use borrow.Author.Tests.{ltb-true}
 use lib.Dec.{ltb, eqb}
 use lib.ListN.{length}
 use Rattle.frames.specs.Buffer.{data_at}
@@ -22,7 +22,8 @@ use Rattle.sender.specs.declared.phase.Phase.TheVariants.{Asking, Telling, Placi
 use Rattle.sender.specs.declared.decision.Decision.{Decision}
 use Rattle.sender.specs.declared.decision.Decision.TheVariants as decision
 use Rattle.sender.specs.declared.sender.Sender.{Sender}
-use Rattle.commands.specs.Outcomes.{accepted, wrong_reply}
+use Rattle.commands.specs.declared.outcome.Outcome.{Outcome}
+use Rattle.commands.specs.Outcomes.{accepted, wrong_reply, same_outcome}
 use Rattle.sender.specs.Phases.{by_phase}
 use Rattle.sender.specs.Senders.{max_silences, max_legs, packet_size, next_size, begun, moved_to, again}
 use Rattle.sender.specs.Rules.{breaks_rules}
@@ -34,6 +35,7 @@ use Rattle.sender.specs.Kept.{Keeps}
 use Rattle.sender.proofs.Phases.{of_phase}
 use Rattle.sender.proofs.RulesKept.{lawful, lawful-accepted}
 use Rattle.sender.proofs.Refusals.{same_length}
+use Rattle.commands.proofs.Outcomes.{same-true}
 use Rattle.sender.proofs.Resumptions.{resume_fits}
 
 -- the phases in which place and number are not looked at
@@ -114,7 +116,7 @@ module _ (s : Sender) where
 
   -- ---- decisions
 
-  refused-keeps : (k : ℕ) → Keeps s (nothing_decided s k)
+  refused-keeps : (k : Outcome) → Keeps s (nothing_decided s k)
   refused-keeps k = record { lawful = λ ok. ok; offer = refl; unchanged = λ n. refl }
 
   -- another record of the same image
@@ -212,9 +214,9 @@ module _ (s : Sender) where
   unfolding after_reply
   reply-keeps image b =
       let refusal = sender_refusal s (length image) in
-      of_each (Keeps s) (eqb refusal accepted) _ _
+      of_each (Keeps s) (same_outcome refusal accepted) _ _
       (λ e.
-      of-both (Keeps s) (own_reply s b) _ _ (judged-keeps (data_at b) image (same_length s (length image) (eqb-true refusal accepted e)))
+      of-both (Keeps s) (own_reply s b) _ _ (judged-keeps (data_at b) image (same_length s (length image) (same-true refusal accepted e)))
       (refused-keeps wrong_reply))
       (λ e. refused-keeps refusal)
 
@@ -234,7 +236,7 @@ module _ (s : Sender) where
   unfolding after_silence silent_in
   silence-keeps n =
       let u = unheard-keeps in
-      of-both (Keeps s) (eqb (sender_refusal s n) accepted) _ _
+      of-both (Keeps s) (same_outcome (sender_refusal s n) accepted) _ _
       (of_phase (Keeps s) s.position.phase _ _ _ _ _ _ _ (λ q. u) (λ q. u) (λ q. u) (λ q. u) (λ q. u) (λ q. stays-keeps decision.Done)
       (λ q. stays-keeps decision.GivenUp))
       (refused-keeps (sender_refusal s n))

@@ -44,7 +44,7 @@ every-offer-opens o = go (bad_offer o) refl
     go true e =
         record {
           opens = (
-            λ z. absurd (let y = simp e at z in omega arith),
+            λ z. absurd (let y = simp e at z in cc),
             λ f. let z = fits o f in let y : ◌≡◌ {A = ℕ} 0 1 = cc in absurd (omega arith),
           );
           refuses = λ _. simp e;

@@ -2,10 +2,8 @@
 use mathlib.Core.Path.{◌≡◌, refl}
 use mathlib.Core.Bool.{Bool, true, false, cond}
 use Prim.Native.Nat.{ℕ}
-use native.Mathlib.Omega.{arith}
 use borrow.Author.Tests.{eqb-true, eq-eqb}
 use lib.Dec.{eqb}
-use Rattle.sequences.proofs.Conditionals.{no-refusal}
 use Rattle.sender.specs.declared.sender.Sender.{Sender}
 use Rattle.commands.specs.Outcomes.{accepted, rules_broken, wrong_image}
 use Rattle.sender.specs.Rules.{breaks_rules}
@@ -16,7 +14,12 @@ module _ (s : Sender) (n : ℕ) where
   parts : sender_refusal s n ≡ accepted
       → (breaks_rules s ≡ false) × (cond (eqb n s.offer.length) accepted wrong_image ≡ accepted)
   unfolding sender_refusal
-  parts = no-refusal (breaks_rules s) rules_broken _ (omega arith)
+  parts = go (breaks_rules s)
+    where
+      go : (b : Bool) → cond b rules_broken (cond (eqb n s.offer.length) accepted wrong_image) ≡ accepted
+          → (b ≡ false) × (cond (eqb n s.offer.length) accepted wrong_image ≡ accepted)
+      go true e = absurd cc
+      go false e = (refl, e)
 
   pub not-refused : sender_refusal s n ≡ accepted → breaks_rules s ≡ false
   not-refused e = (parts e).0
@@ -26,7 +29,7 @@ module _ (s : Sender) (n : ℕ) where
     where
       go : (b : Bool) → eqb n s.offer.length ≡ b → cond b accepted wrong_image ≡ accepted → n ≡ s.offer.length
       go true q z = eqb-true n s.offer.length q
-      go false q z = absurd (omega arith)
+      go false q z = absurd cc
 
   -- and conversely
   pub is-accepted : breaks_rules s ≡ false → n ≡ s.offer.length → sender_refusal s n ≡ accepted

@@ -3,25 +3,26 @@ use mathlib.Core.Path.{◌≡◌, refl}
 use mathlib.Core.Bool.{true, false}
 use mathlib.Core.List.{List}
 use Prim.Native.Nat.{ℕ, ◌≤◌, ◌<◌}
-use borrow.Author.Tests.{ne_eqb, lt-ltb, le-ltb}
+use borrow.Author.Tests.{lt-ltb, le-ltb}
 use lib.ListN.{length}
 use Rattle.fronts.specs.Frame.{max_frame}
 use Rattle.frames.specs.Buffer.{written_size, written_room}
 use Rattle.sender.specs.declared.phase.Phase.TheVariants.{Asking, Telling}
 use Rattle.sender.specs.declared.sender.Sender.{Sender}
-use Rattle.commands.specs.Outcomes.{accepted, short_room}
+use Rattle.commands.specs.declared.outcome.Outcome.{Outcome}
+use Rattle.commands.specs.Outcomes.{accepted, short_room, same_outcome}
 use Rattle.sender.specs.Phases.{is_final}
 use Rattle.sender.specs.Requests.{request_of, sender_refusal, request_outcome, requested, room_requested}
 use Rattle.sender.specs.Exchanges.{frame_fa, frame_fb}
 
 module _ (s : Sender) (image room : List ℕ) where
   -- nothing is written
-  abbrev Nothing : ℕ → Type 0
+  abbrev Nothing : Outcome → Type 0
   Nothing outcome = (requested s image room ≡ record { outcome = outcome; length = 0 }) × (room_requested s image room ≡ room)
 
-  pub request-refused : (k : ℕ) → sender_refusal s (length image) ≡ k → (k ≡ accepted → ⊥) → Nothing k
+  pub request-refused : (k : Outcome) → (sender_refusal s (length image) ≡ k) × (same_outcome k accepted ≡ false) → Nothing k
   unfolding requested room_requested request_outcome
-  request-refused k e n = let f = ne_eqb k accepted n in (rw (e, f) (rw f refl), rw (e, f) (rw f refl))
+  request-refused k (e, f) = (rw (e, f) (rw f refl), rw (e, f) (rw f refl))
 
   module _ (ok : sender_refusal s (length image) ≡ accepted) where
     pub request-short : length room < max_frame → Nothing short_room

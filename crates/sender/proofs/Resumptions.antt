@@ -16,12 +16,14 @@ use Rattle.replies.specs.ReplyFields.{fields_fb}
 use Rattle.sender.specs.declared.phase.Phase.TheVariants.{Telling, Placing}
 use Rattle.sender.specs.declared.decision.Decided.{Decided}
 use Rattle.sender.specs.declared.sender.Sender.{Sender}
-use Rattle.commands.specs.Outcomes.{accepted, wrong_reply}
+use Rattle.commands.specs.declared.outcome.Outcome.{Outcome}
+use Rattle.commands.specs.Outcomes.{accepted, wrong_reply, same_outcome}
 use Rattle.sender.specs.Decisions.{nothing_decided}
 use Rattle.sender.specs.Requests.{sender_refusal}
 use Rattle.sender.specs.Replies.{own_reply, judged_fb, resume_at, judged_in, after_reply}
 use Rattle.sender.specs.Deciding.{OfferGranted}
 use Rattle.sender.specs.Resuming.{FirstBytes, AsksFor, Resumed, Resumption}
+use Rattle.commands.proofs.Outcomes.{same-true}
 use Rattle.sender.proofs.Hearings.{heard, offer-granted}
 
 module _ (r : ReplyFB) (image : List ℕ) where
@@ -74,10 +76,10 @@ module _ (s : Sender) (image b : List ℕ) where
   unfolding after_reply judged_fb
   told-moves is =
       let P : Decided → Type 0 = λ d. d.next.position.phase ≡ Placing → OfferGranted s image b in
-      let stays : (k : ℕ) → P (nothing_decided s k) = λ k e. let q = sym is ∙ e in let z : ◌≡◌ {A = ℕ} 0 1 = cc in absurd (omega arith) in
+      let stays : (k : Outcome) → P (nothing_decided s k) = λ k e. let q = sym is ∙ e in let z : ◌≡◌ {A = ℕ} 0 1 = cc in absurd (omega arith) in
       let refusal = sender_refusal s (length image) in
       let r = fields_fb (data_at b) in
-      of_each P (eqb refusal accepted) _ _
+      of_each P (same_outcome refusal accepted) _ _
       (λ taken.
       of_each P (own_reply s b) _ _
       (λ own.
@@ -85,7 +87,7 @@ module _ (s : Sender) (image b : List ℕ) where
       of-both P (ltb bad_length_fb r.state) _ _ (stays wrong_reply)
       (of_each P (eqb r.state granted) _ _
       (λ zero e.
-      record { heard = heard s image b Telling (eqb-true refusal accepted taken) is own; state = eqb-true r.state granted zero })
+      record { heard = heard s image b Telling (same-true refusal accepted taken) is own; state = eqb-true r.state granted zero })
       (λ some e. let z : ◌≡◌ {A = ℕ} 0 1 = cc in absurd (omega arith))) in
       subst P (sym (judged-told s (data_at b) image is)) told)
       (λ e. stays wrong_reply))

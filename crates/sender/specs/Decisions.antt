@@ -1,5 +1,6 @@
 -- docs/SENDER.md, "Replies": what a reply or a silence comes to. Assumes nothing.
-use Rattle.std.specs.Prelude.{cond, ℕ, ◌+◌, ltb}
+use Rattle.std.specs.Prelude.{cond, ◌+◌, ltb}
+use Rattle.commands.specs.declared.outcome.Outcome.{Outcome}
 use Rattle.sender.specs.declared.phase.Phase.TheVariants as phase
 use Rattle.sender.specs.declared.decision.Decision.{Decision}
 use Rattle.sender.specs.declared.decision.Decision.TheVariants as decision
@@ -9,7 +10,7 @@ use Rattle.commands.specs.Outcomes.{accepted}
 use Rattle.sender.specs.Senders.{max_legs, begun, moved_to}
 
 -- "decision none, record .. unchanged"
-abbrev pub nothing_decided : Sender → ℕ → Decided
+abbrev pub nothing_decided : Sender → Outcome → Decided
 nothing_decided s outcome = record { outcome = outcome; decision = decision.Nothing; next = s }
 
 abbrev pub decided : Decision → Sender → Decided

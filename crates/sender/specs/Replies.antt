@@ -12,7 +12,7 @@ use Rattle.replies.specs.ReplyFields.{is_reply, reply_channel, fields_fa, fields
 use Rattle.sender.specs.declared.phase.Phase.TheVariants.{Telling, Placing, Sending, Ending}
 use Rattle.sender.specs.declared.decision.Decided.{Decided}
 use Rattle.sender.specs.declared.sender.Sender.{Sender}
-use Rattle.commands.specs.Outcomes.{accepted, wrong_reply}
+use Rattle.commands.specs.Outcomes.{accepted, wrong_reply, same_outcome}
 use Rattle.sender.specs.Phases.{by_phase, command_of}
 use Rattle.sender.specs.Senders.{next_size, moved_to}
 use Rattle.sender.specs.Decisions.{nothing_decided, go_on, done, given_up, leg_over}
@@ -85,7 +85,7 @@ judged_in s d image =
 unfoldable pub after_reply : Sender → List ℕ → List ℕ → Decided
 after_reply s image b =
     let refusal = sender_refusal s (length image) in
-    cond (eqb refusal accepted) (cond (own_reply s b) (judged_in s (data_at b) image) (nothing_decided s wrong_reply))
+    cond (same_outcome refusal accepted) (cond (own_reply s b) (judged_in s (data_at b) image) (nothing_decided s wrong_reply))
     (nothing_decided s refusal)
 
 -- What a record that keeps its rules has in phase sending. Internal: the functions that go on to the next packet ask for it.

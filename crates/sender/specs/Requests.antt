@@ -1,5 +1,5 @@
 -- docs/SENDER.md, "Next request": which request a record stands at, and the call that writes it. Assumes nothing.
-use Rattle.std.specs.Prelude.{◌≡◌, Bool, false, cond, not, List, ℕ, ltb, eqb, length, take, drop}
+use Rattle.std.specs.Prelude.{◌≡◌, Bool, false, cond, not, List, ℕ, ltb, eqb, length, take, drop, Option, MatchOption}
 use Rattle.crc.specs.Crc.{checksum, crc16_modbus, crc32}
 use Rattle.fronts.specs.Frame.{max_frame, Frame}
 use Rattle.frames.specs.LiveReading.{no_frame}
@@ -11,7 +11,8 @@ use Rattle.requests.specs.declared.request.RequestFD.{RequestFD}
 use Rattle.requests.specs.RequestFrames.{data_fa, data_fb, data_fc, data_fd, data_fe, request_frame}
 use Rattle.sender.specs.declared.sender.Sender.{Sender}
 use Rattle.sender.specs.declared.request.Requested.{Requested}
-use Rattle.commands.specs.Outcomes.{accepted, short_room, rules_broken, wrong_image}
+use Rattle.commands.specs.declared.outcome.Outcome.{Outcome}
+use Rattle.commands.specs.Outcomes.{accepted, short_room, rules_broken, wrong_image, same_outcome}
 use Rattle.sender.specs.Phases.{by_phase, is_final}
 use Rattle.sender.specs.Senders.{next_size}
 use Rattle.sender.specs.Rules.{breaks_rules}
@@ -59,18 +60,22 @@ request_of s image =
 -- ---- the call
 
 -- "9, 20", which every call checks; 0 where neither is given
-unfoldable pub sender_refusal : Sender → ℕ → ℕ
+unfoldable pub sender_refusal : Sender → ℕ → Outcome
 sender_refusal s n = cond (breaks_rules s) rules_broken (cond (eqb n s.offer.length) accepted wrong_image)
 
+-- the same as the checks hand it on: none where it is 0
+abbrev pub RefusedWith : Outcome → Option Outcome → Type 0
+RefusedWith refusal r = MatchOption r (refusal ≡ accepted) (λ outcome. (refusal ≡ outcome) × (same_outcome outcome accepted ≡ false))
+
 -- 5: "room below 526 bytes, in every phase"
-unfoldable pub request_outcome : Sender → List ℕ → List ℕ → ℕ
+unfoldable pub request_outcome : Sender → List ℕ → List ℕ → Outcome
 request_outcome s image room =
     let refusal = sender_refusal s (length image) in
-    cond (eqb refusal accepted) (cond (ltb (length room) max_frame) short_room accepted) refusal
+    cond (same_outcome refusal accepted) (cond (ltb (length room) max_frame) short_room accepted) refusal
 
 -- a request is written
 abbrev pub writes : Sender → List ℕ → List ℕ → Bool
-writes s image room = cond (eqb (request_outcome s image room) accepted) (not (is_final s.position.phase)) false
+writes s image room = cond (same_outcome (request_outcome s image room) accepted) (not (is_final s.position.phase)) false
 
 -- "The request stands at the front of the room; room past it stays."
 unfoldable pub requested : Sender → List ℕ → List ℕ → Requested

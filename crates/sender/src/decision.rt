@@ -3,9 +3,9 @@ ghost use Rattle.std.specs.Prelude.{◌≡◌};
 ghost use Rattle.sender.specs.Decisions.{decided, nothing_decided};
 
 use crate::sender::Sender;
-use commands::outcome;
+use commands::outcome::Outcome;
 
-#[derive(Clone, Copy)]
+#[derive(Clone, Copy, PartialEq, Eq)]
 pub enum Decision {
     // The call was refused: go on waiting.
     Nothing,
@@ -20,16 +20,17 @@ pub enum Decision {
     GivenUp,
 }
 
+// Not a Result: `UnlessAccepted` (specs/Kept) promises the decision and the record of a refused call too.
 #[derive(Clone, Copy)]
 pub struct Decided {
-    pub outcome: u8,
+    pub outcome: Outcome,
     pub decision: Decision,
     pub next: Sender,
 }
 
 impl Decided {
     // Refused with this outcome.
-    pub(crate) fn nothing(sender: Sender, outcome: u8) -> Decided
+    pub(crate) fn nothing(sender: Sender, outcome: Outcome) -> Decided
         ensures { result ≡ nothing_decided sender outcome }
     {
         Decided {
@@ -43,7 +44,7 @@ impl Decided {
         ensures { result ≡ decided decision next }
     {
         Decided {
-            outcome: outcome::ACCEPTED,
+            outcome: Outcome::Accepted,
             decision,
             next,
         }

@@ -4,12 +4,12 @@ ghost use Rattle.sender.specs.Opening.{offer_of, opened_sender};
 
 use crate::rules::bad_offer;
 use crate::sender::{Offer, Sender};
-use commands::outcome;
+use commands::outcome::Outcome;
 
-// What opening gives. A refused opening hands back the all-zero record.
+// What opening gives. A refused opening hands back the all-zero record: `SenderKeeps` (specs/Kept) says so, hence no Result.
 #[derive(Clone, Copy)]
 pub struct Opened {
-    pub outcome: u8,
+    pub outcome: Outcome,
     pub sender: Sender,
 }
 
@@ -34,12 +34,12 @@ impl Sender {
         };
         if bad_offer(offer) {
             return Opened {
-                outcome: outcome::WRONG_IMAGE,
+                outcome: Outcome::WrongImage,
                 sender: Sender::none(),
             };
         }
         Opened {
-            outcome: outcome::ACCEPTED,
+            outcome: Outcome::Accepted,
             sender: Sender::begun(offer, 0),
         }
     }

@@ -4,7 +4,7 @@ ghost use Rattle.sender.specs.Phases.{is_final, command_of};
 
 use commands::table;
 
-#[derive(Clone, Copy)]
+#[derive(Clone, Copy, PartialEq, Eq)]
 pub enum Phase {
     // FA
     Asking,
@@ -25,14 +25,10 @@ pub enum Phase {
 pub(crate) fn is_final(phase: Phase) -> bool
     ensures { result ≡ is_final phase }
 {
-    match phase {
-        Phase::Done => true,
-        Phase::GivenUp => true,
-        _ => false,
-    }
+    matches!(phase, Phase::Done | Phase::GivenUp)
 }
 
-// The command of the request; 0 where there is none.
+// The command of the request; 0 where there is none: `own_reply` (specs/Replies) asks for the reply to a command of any phase.
 pub(crate) fn command_of(phase: Phase) -> u8
     ensures { result ≡ command_of phase }
 {
@@ -42,7 +38,6 @@ pub(crate) fn command_of(phase: Phase) -> u8
         Phase::Placing => table::FC,
         Phase::Sending => table::FD,
         Phase::Ending => table::FE,
-        Phase::Done => 0,
-        Phase::GivenUp => 0,
+        Phase::Done | Phase::GivenUp => 0,
     }
 }

@@ -10,7 +10,8 @@ use crate::decision::{Decided, Decision};
 use crate::phase::{Phase, command_of};
 use crate::sender::Sender;
 use commands::limits::MAX_PACKET;
-use commands::{outcome, state};
+use commands::outcome::Outcome;
+use commands::state;
 use frames::buffer;
 use replies::reply_fields;
 use replies::reply_fields::{ReplyFA, ReplyFB, ReplyFC, ReplyState};
@@ -20,8 +21,7 @@ impl Sender {
     pub fn reply(self, image: &[u8], reply: &[u8]) -> Decided
         ensures { result ≡ after_reply self image.now reply.now }
     {
-        let refusal = self.refusal(image.len());
-        if refusal != outcome::ACCEPTED {
+        if let Some(refusal) = self.refusal(image.len()) {
             return Decided::nothing(self, refusal);
         }
         if self.own_reply(reply) {
@@ -34,21 +34,15 @@ impl Sender {
     fn own_reply(self, reply: &[u8]) -> bool
         ensures { result ≡ own_reply self reply.now }
     {
-        let position = self.position;
-        let phase = position.phase;
-        let own = self.offer.channel;
-        if reply_fields::is_reply(command_of(phase), reply) {
-            let channel = reply_fields::channel(buffer::data(reply));
-            return channel == own;
-        }
-        false
+        reply_fields::is_reply(command_of(self.position.phase), reply)
+            && reply_fields::channel(buffer::data(reply)) == self.offer.channel
     }
 
     // A reply that never comes here: nothing changes, and it is no silence either.
     fn wrong_reply(self) -> Decided
         ensures { result ≡ nothing_decided self wrong_reply }
     {
-        Decided::nothing(self, outcome::WRONG_REPLY)
+        Decided::nothing(self, Outcome::WrongReply)
     }
 
     // `fields` is the reply's data.
@@ -56,9 +50,7 @@ impl Sender {
         requires { breaks_rules self ≡ false }
         ensures { result ≡ judged_in self fields.now image.now }
     {
-        let position = self.position;
-        let phase = position.phase;
-        match phase {
+        match self.position.phase {
             Phase::Asking => self.judge_fa(reply_fields::fa(fields)),
             Phase::Telling => self.judge_fb(reply_fields::fb(fields), image),
             Phase::Placing => self.judge_fc(reply_fields::fc(fields)),
@@ -71,10 +63,7 @@ impl Sender {
     fn judge_fa(self, asked: ReplyFA) -> Decided
         ensures { result ≡ judged_fa self asked }
     {
-        if state::FA_DENIED < asked.flag {
-            return self.wrong_reply();
-        }
-        if asked.len2 != MAX_PACKET {
+        if state::FA_DENIED < asked.flag || asked.len2 != MAX_PACKET {
             return self.wrong_reply();
         }
         if asked.flag == state::GRANTED {
@@ -99,10 +88,7 @@ impl Sender {
     fn judge_fc(self, placed: ReplyFC) -> Decided
         ensures { result ≡ judged_fc self placed }
     {
-        if placed.offset == self.position.place {
-            return Decided::to(Decision::GoOn, self.onward(placed.offset, 0));
-        }
-        if placed.offset == 0 {
+        if placed.offset == self.position.place || placed.offset == 0 {
             return Decided::to(Decision::GoOn, self.onward(placed.offset, 0));
         }
         self.wrong_reply()
@@ -125,10 +111,7 @@ impl Sender {
     fn judge_fe(self, end: ReplyState) -> Decided
         ensures { result ≡ judged_fe self end }
     {
-        if state::FE_REFUSED < end.state {
-            return self.wrong_reply();
-        }
-        if end.state == state::FE_NEVER_SENT {
+        if state::FE_REFUSED < end.state || end.state == state::FE_NEVER_SENT {
             return self.wrong_reply();
         }
         if end.state == state::GRANTED {
@@ -149,17 +132,12 @@ impl Sender {
 }
 
 // From where the image is sent on: what the controller has of it stays only if it is the image's own first bytes.
-fn resume_at(r: ReplyFB, image: &[u8]) -> usize
-    ensures { result ≡ resume_at r image.now }
+fn resume_at(told: ReplyFB, image: &[u8]) -> usize
+    ensures { result ≡ resume_at told image.now }
 {
-    let stored = r.stored;
-    let told = r.crc;
-    if image.len() < stored {
+    if image.len() < told.stored {
         return 0;
     }
-    let crc = crc32::checksum(&image[..stored]);
-    if crc == told {
-        return stored;
-    }
-    0
+    let crc = crc32::checksum(&image[..told.stored]);
+    if crc == told.crc { told.stored } else { 0 }
 }

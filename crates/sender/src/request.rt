@@ -2,11 +2,11 @@
 ghost use Rattle.std.specs.Prelude.{◌≡◌};
 ghost use Rattle.frames.specs.Finished.{finished};
 ghost use Rattle.requests.specs.RequestFrames.{data_fb, request_frame};
-ghost use Rattle.sender.specs.Requests.{telling_of, packet_frame, request_of, sender_refusal, RequestGiven};
+ghost use Rattle.sender.specs.Requests.{telling_of, packet_frame, request_of, sender_refusal, RefusedWith, RequestGiven};
 
 use crate::phase::{Phase, is_final};
-use crate::sender::Sender;
-use commands::outcome;
+use crate::sender::{Offer, Sender};
+use commands::outcome::Outcome;
 use frames::finished::FinishedFrame;
 use fronts::MAX_FRAME;
 use requests::request::{RequestFA, RequestFB, RequestFC, RequestFD};
@@ -16,7 +16,7 @@ use sequences::part::part;
 // What the call gives: the request's length, 0 where there is none.
 #[derive(Clone, Copy)]
 pub struct Requested {
-    pub outcome: u8,
+    pub outcome: Outcome,
     pub length: usize,
 }
 
@@ -25,45 +25,40 @@ impl Sender {
     pub fn request(self, image: &[u8], room: &mut [u8]) -> Requested
         ensures { RequestGiven self image.now room.old result room.new }
     {
-        let refusal = self.refusal(image.len());
-        if refusal != outcome::ACCEPTED {
+        if let Some(refusal) = self.refusal(image.len()) {
             return without_request(refusal);
         }
         if room.len() < MAX_FRAME {
-            return without_request(outcome::SHORT_ROOM);
+            return without_request(Outcome::ShortRoom);
         }
-        let position = self.position;
-        let phase = position.phase;
-        if is_final(phase) {
-            return without_request(outcome::ACCEPTED);
+        if is_final(self.position.phase) {
+            return without_request(Outcome::Accepted);
         }
         let frame = self.frame(image);
         Requested {
-            outcome: outcome::ACCEPTED,
+            outcome: Outcome::Accepted,
             length: frame.write(room),
         }
     }
 
-    // What every call checks first, in this order; ACCEPTED where nothing is wrong.
-    pub(crate) fn refusal(self, n: usize) -> u8
-        ensures { result ≡ sender_refusal self n }
+    // What every call checks first, in this order.
+    pub(crate) fn refusal(self, n: usize) -> Option<Outcome>
+        ensures { RefusedWith (sender_refusal self n) result }
     {
         if self.breaks_rules() {
-            return outcome::RULES_BROKEN;
+            Some(Outcome::RulesBroken)
+        } else if n != self.offer.length {
+            Some(Outcome::WrongImage)
+        } else {
+            None
         }
-        if n == self.offer.length {
-            return outcome::ACCEPTED;
-        }
-        outcome::WRONG_IMAGE
     }
 
     // The request; a frame without a command where there is none any more.
     fn frame(self, image: &[u8]) -> FinishedFrame
         ensures { result ≡ finished (request_of self image.now) }
     {
-        let position = self.position;
-        let phase = position.phase;
-        match phase {
+        match self.position.phase {
             Phase::Asking => request_frame::fa(RequestFA {
                 channel: self.offer.channel,
                 len1: self.offer.size as usize,
@@ -82,16 +77,20 @@ impl Sender {
     fn telling(self, image: &[u8]) -> FinishedFrame
         ensures { result ≡ finished (request_frame 0xFB (data_fb (telling_of self image.now))) }
     {
-        let offer = self.offer;
-        let pid = offer.pid;
-        let version = offer.version;
-        let md5 = offer.md5;
-        request_frame::fb(RequestFB {
-            channel: offer.channel,
+        let Offer {
+            channel,
             pid,
             version,
             md5,
-            length: offer.length,
+            length,
+            ..
+        } = self.offer;
+        request_frame::fb(RequestFB {
+            channel,
+            pid,
+            version,
+            md5,
+            length,
             crc: crc32::checksum(image),
         })
     }
@@ -111,7 +110,7 @@ impl Sender {
     }
 }
 
-fn without_request(outcome: u8) -> Requested
+fn without_request(outcome: Outcome) -> Requested
     ensures { result ≡ record { outcome = outcome; length = 0 } }
 {
     Requested { outcome, length: 0 }

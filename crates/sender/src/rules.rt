@@ -11,16 +11,7 @@ impl Sender {
     pub fn breaks_rules(self) -> bool
         ensures { result ≡ breaks_rules self }
     {
-        let offer = self.offer;
-        if bad_offer(offer) {
-            return true;
-        }
-        let tries = self.tries;
-        if bad_tries(tries) {
-            return true;
-        }
-        let position = self.position;
-        bad_position(position, offer)
+        bad_offer(self.offer) || bad_tries(self.tries) || bad_position(self.position, self.offer)
     }
 }
 
@@ -28,30 +19,20 @@ impl Sender {
 pub(crate) fn bad_offer(offer: Offer) -> bool
     ensures { result ≡ bad_offer offer }
 {
-    if (offer.size as usize) < MIN_PACKET {
-        return true;
-    }
-    if offer.length == 0 {
-        return true;
-    }
-    MAX_AREA < offer.length
+    (offer.size as usize) < MIN_PACKET || offer.length == 0 || MAX_AREA < offer.length
 }
 
 fn bad_tries(tries: Tries) -> bool
     ensures { result ≡ bad_tries tries }
 {
-    if MAX_SILENCES < tries.silences {
-        return true;
-    }
-    MAX_LEGS < tries.new_legs
+    MAX_SILENCES < tries.silences || MAX_LEGS < tries.new_legs
 }
 
 fn bad_position(position: Position, offer: Offer) -> bool
     requires { min_packet ≤ offer.size }
     ensures { result ≡ bad_position position offer }
 {
-    let phase = position.phase;
-    match phase {
+    match position.phase {
         Phase::Placing => offer.length < position.place,
         Phase::Sending => bad_packet(position, offer),
         _ => false,
@@ -64,8 +45,5 @@ fn bad_packet(position: Position, offer: Offer) -> bool
     ensures { result ≡ bad_packet position offer }
 {
     let packet = packet_size(offer.size as usize);
-    if position.place < offer.length {
-        return position.place / packet < position.number;
-    }
-    true
+    offer.length <= position.place || position.place / packet < position.number
 }

@@ -1,5 +1,5 @@
 // The sender's record by value, in three groups by what changes together, and the ways in which it changes.
-ghost use Rattle.std.specs.Prelude.{◌≡◌, ◌-◌, ◌<◌};
+ghost use Rattle.std.specs.Prelude.{◌≡◌, ◌<◌};
 ghost use Rattle.sender.specs.Senders.{max_silences, no_sender, begun, moved_to, again, packet_size, next_size};
 
 use crate::phase::Phase;
@@ -87,12 +87,11 @@ impl Sender {
     pub(crate) fn moved_to(mut self, phase: Phase, place: usize, number: usize) -> Sender
         ensures { result ≡ moved_to self phase place number }
     {
-        let position = Position {
+        self.position = Position {
             phase,
             place,
             number,
         };
-        self.position = position;
         self.tries.silences = 0;
         self
     }
@@ -102,8 +101,7 @@ impl Sender {
         requires { self.tries.silences < max_silences }
         ensures { result ≡ again self }
     {
-        let silences = self.tries.silences + 1;
-        self.tries.silences = silences;
+        self.tries.silences += 1;
         self
     }
 
@@ -111,31 +109,14 @@ impl Sender {
     pub(crate) fn next_size(self) -> usize
         ensures { result ≡ next_size self }
     {
-        let packet = packet_size(self.offer.size as usize);
-        let left = left(self.offer.length, self.position.place);
-        if left < packet {
-            return left;
-        }
-        packet
+        let left = self.offer.length.saturating_sub(self.position.place);
+        left.min(packet_size(self.offer.size as usize))
     }
-}
-
-// How many bytes are still to be sent.
-fn left(length: usize, place: usize) -> usize
-    ensures { result ≡ length - place }
-{
-    if length < place {
-        return 0;
-    }
-    length - place
 }
 
 // The smaller of size and 512.
 pub(crate) fn packet_size(size: usize) -> usize
     ensures { result ≡ packet_size size }
 {
-    if size < MAX_PACKET {
-        return size;
-    }
-    MAX_PACKET
+    size.min(MAX_PACKET)
 }

@@ -6,19 +6,15 @@ ghost use Rattle.sender.specs.Silences.{unheard, after_silence};
 use crate::decision::{Decided, Decision};
 use crate::phase::Phase;
 use crate::sender::{MAX_LEGS, MAX_SILENCES, Sender};
-use commands::outcome;
 
 impl Sender {
     pub fn silence(self, image: &[u8]) -> Decided
         ensures { result ≡ after_silence self (length image.now) }
     {
-        let refusal = self.refusal(image.len());
-        if refusal != outcome::ACCEPTED {
+        if let Some(refusal) = self.refusal(image.len()) {
             return Decided::nothing(self, refusal);
         }
-        let position = self.position;
-        let phase = position.phase;
-        match phase {
+        match self.position.phase {
             Phase::Done => Decided::to(Decision::Done, self),
             Phase::GivenUp => Decided::to(Decision::GivenUp, self),
             _ => self.unheard(),
@@ -40,8 +36,7 @@ impl Sender {
         ensures { result ≡ leg_over self }
     {
         if self.tries.new_legs < MAX_LEGS {
-            let offer = self.offer;
-            let next = Sender::begun(offer, self.tries.new_legs + 1);
+            let next = Sender::begun(self.offer, self.tries.new_legs + 1);
             return Decided::to(Decision::NewLeg, next);
         }
         self.given_up()

@@ -5,19 +5,19 @@ ghost use Rattle.std.specs.Prelude.{◌≡◌, ◌+◌, ◌-◌};
 pub fn smaller(i: usize, n: usize) -> usize
     ensures { result ≡ i - (i - n) }
 {
-    if i < n { i } else { n }
+    i.min(n)
 }
 
 // The larger of i and n.
 pub fn larger(i: usize, n: usize) -> usize
     ensures { result ≡ n + (i - n) }
 {
-    if i < n { n } else { i }
+    i.max(n)
 }
 
 // How far i is past n; 0 where it is not.
 pub fn past(i: usize, n: usize) -> usize
     ensures { result ≡ i - n }
 {
-    if i < n { 0 } else { i - n }
+    i.saturating_sub(n)
 }

@@ -11,15 +11,11 @@ use crate::place;
 pub fn byte(a: &[u8], b: &[u8], i: usize) -> u8
     ensures { result ≡ get_or (a.now ++ b.now) i 0 }
 {
-    let n = a.len();
-    if i < n {
-        return a[i];
+    if i < a.len() {
+        a[i]
+    } else {
+        b.get(i - a.len()).copied().unwrap_or(0)
     }
-    let j = i - n;
-    if j < b.len() {
-        return b[j];
-    }
-    0
 }
 
 // What of the bytes from `from` to `to` stands in the second slice, where the first has n bytes.
@@ -36,9 +32,8 @@ pub fn copy(a: &[u8], b: &[u8], from: usize, to: usize, out: &mut [u8])
     let x = between(a, from, to);
     let y = second(b, a.len(), from, to);
     let n = x.len();
-    if out.len() < n + y.len() {
-        return;
+    if n + y.len() <= out.len() {
+        place::write(&mut *out, 0, x);
+        place::write(out, n, y);
     }
-    place::write(&mut *out, 0, x);
-    place::write(out, n, y);
 }

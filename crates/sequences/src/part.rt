@@ -3,26 +3,18 @@ ghost use Rattle.std.specs.Prelude.{◌≡◌, take, drop};
 ghost use Rattle.std.proofs.Math.Seq.{slice};
 ghost use Rattle.sequences.specs.Comparing.{begins_with};
 
-use crate::compare::same;
-
 // The first n bytes of s, or all where it has fewer.
 pub fn front(s: &[u8], n: usize) -> &[u8]
     ensures { result.now ≡ take n s.now }
 {
-    if s.len() < n {
-        return s;
-    }
-    &s[..n]
+    &s[..n.min(s.len())]
 }
 
 // What stands in s behind its first n bytes.
 pub fn behind(s: &[u8], n: usize) -> &[u8]
     ensures { result.now ≡ drop n s.now }
 {
-    if s.len() < n {
-        return &s[..0];
-    }
-    &s[n..]
+    &s[n.min(s.len())..]
 }
 
 // The n bytes of s from `from` on, or as many as there are.
@@ -43,5 +35,5 @@ pub fn between(s: &[u8], from: usize, to: usize) -> &[u8]
 pub fn begins(s: &[u8], bytes: &[u8]) -> bool
     ensures { result ≡ begins_with s.now bytes.now }
 {
-    same(front(s, bytes.len()), bytes)
+    s.starts_with(bytes)
 }

@@ -2,21 +2,15 @@
 ghost use Rattle.std.specs.Prelude.{◌≡◌, ◌++◌, min, length, take, drop};
 ghost use Rattle.sequences.specs.Places.{written_at};
 
-use crate::bounds::smaller;
 use crate::part::part;
 
 // Writes the bytes from place `at` on and nothing else; nothing at all where they do not fit.
 pub fn write(all: &mut [u8], at: usize, bytes: &[u8])
     ensures { all.new ≡ written_at all.old at bytes.now }
 {
-    let n = bytes.len();
-    if all.len() < n {
-        return;
+    if bytes.len() <= all.len() && at <= all.len() - bytes.len() {
+        copy(bytes, &mut all[at..]);
     }
-    if all.len() - n < at {
-        return;
-    }
-    copy(bytes, &mut all[at..]);
 }
 
 // Copies from the front of `from` to the front of `to`, as many bytes as both have, and returns how many.
@@ -24,7 +18,7 @@ pub fn copy(from: &[u8], to: &mut [u8]) -> usize
     ensures count { result ≡ min (length from.now) (length to.old) }
     ensures copied { to.new ≡ take result from.now ++ drop result to.old }
 {
-    let n = smaller(from.len(), to.len());
+    let n = from.len().min(to.len());
     to[..n].copy_from_slice(&from[..n]);
     n
 }

@@ -30,6 +30,8 @@ use Rattle.ending.specs.FE.{answer_fe, ended_fe}
 use Rattle.ending.specs.Portions.{unread, check_step, will_say, right_crc}
 use Rattle.transfer.proofs.PhaseLaws.{image_busy, ending-image}
 use Rattle.ending.proofs.Ends.{started-says, goes_on, ends}
+use Rattle.commands.specs.declared.outcome.Outcome.{Outcome}
+use Rattle.commands.specs.Outcomes.{accepted, unlisted_command, wrong_header, unlisted_channel, other_area, rules_broken, wrong_phase, check_runs}
 use Rattle.session.specs.declared.session.Session.{Session}
 use Rattle.session.specs.declared.answer.Answer.{Answer}
 use Rattle.boards.specs.Boards.{past_board}
@@ -44,6 +46,7 @@ use Rattle.session.proofs.OneGoes.{called_in_one_go}
 use Rattle.session.specs.Transfers.{with_transfer}
 use Rattle.session.proofs.Kept.{fe-kept}
 use Rattle.session.proofs.TableFrames.{is-fe}
+use Rattle.commands.proofs.Outcomes.{same-false}
 
 false_true : {A : Type 0} → false ≡ true → A
 false_true e = let z : ◌≡◌ {A = ℕ} 0 1 = cc in absurd (omega arith)
@@ -131,18 +134,18 @@ started-by s f area still e =
     go (unlawful s) (not (eqb (length area) s.opened)) (header_of_frame f) (eqb f.command 0xF9)
     (ltb (place_for s f) s.count) refl refl refl refl refl
   where
-    no : (n : ℕ) → reaction s f area ≡ unwritten (unchanged n s) area → StartedBy s f area
+    no : (n : Outcome) → reaction s f area ≡ unwritten (unchanged n s) area → StartedBy s f area
     no n is = false_true (sym still ∙ sym (ap (λ (x : Effect Answer). x.gives.session.transfer.check.running) is) ∙ e)
 
     go : (a b : Bool) (h : Header) (c d : Bool) → unlawful s ≡ a → not (eqb (length area) s.opened) ≡ b → header_of_frame f ≡ h
         → eqb f.command 0xF9 ≡ c
         → ltb (place_for s f) s.count ≡ d → StartedBy s f area
-    go true b h c d ea eb eh ec ed = no 9 (rw ea)
-    go false true h c d ea eb eh ec ed = no 6 (rw (ea, eb))
-    go false false Unlisted c d ea eb eh ec ed = no 2 (rw (ea, eb, eh))
-    go false false Wrong c d ea eb eh ec ed = no 3 (rw (ea, eb, eh))
-    go false false Right true d ea eb eh ec ed = no 0 (rw (ea, eb, eh, ec))
-    go false false Right false false ea eb eh ec ed = no 4 (rw (ea, eb, eh, ec, ed))
+    go true b h c d ea eb eh ec ed = no rules_broken (rw ea)
+    go false true h c d ea eb eh ec ed = no other_area (rw (ea, eb))
+    go false false Unlisted c d ea eb eh ec ed = no unlisted_command (rw (ea, eb, eh))
+    go false false Wrong c d ea eb eh ec ed = no wrong_header (rw (ea, eb, eh))
+    go false false Right true d ea eb eh ec ed = no accepted (rw (ea, eb, eh, ec))
+    go false false Right false false ea eb eh ec ed = no unlisted_channel (rw (ea, eb, eh, ec, ed))
     go false false Right false true ea eb eh ec ed =
         let board = get_or s.boards (place_for s f) past_board in
         let step = effect_of s.transfer f board area in
@@ -175,19 +178,21 @@ pub running-same : (s : Session) (f : FinishedFrame) (area : List ℕ) → s.tra
 unfolding reaction judged routed
 running-same s f area runs =
     let P = RunningSame s area in
-    let same : (n : ℕ) → P (unwritten (unchanged n s) area) = λ n. record { same-session = refl; no-reply = refl; same_area = refl } in
-    of-both P (unlawful s) _ _ (same 9)
-    (of-both P (not (eqb (length area) s.opened)) _ _ (same 6)
-    (by-header P (header_of_frame f) _ _ _ (same 2) (same 3)
-    (of-both P (eqb f.command 0xF9) _ _ (same 0)
+    let same : (n : Outcome) → P (unwritten (unchanged n s) area) = λ n. record { same-session = refl; no-reply = refl; same_area = refl } in
+    of-both P (unlawful s) _ _ (same rules_broken)
+    (of-both P (not (eqb (length area) s.opened)) _ _ (same other_area)
+    (by-header P (header_of_frame f) _ _ _ (same unlisted_command) (same wrong_header)
+    (of-both P (eqb f.command 0xF9) _ _ (same accepted)
     (of-both P (ltb (place_for s f) s.count) _ _
-    (of_each P s.transfer.check.running _ _ (λ _. same 12) (λ e. false_true (sym e ∙ runs)))
-    (same 4)))))
+    (of_each P s.transfer.check.running _ _ (λ _. same check_runs) (λ e. false_true (sym e ∙ runs)))
+    (same unlisted_channel)))))
 
 -- it gets 2 or 3, is noted, or gets 12 or 4
 module _ (s : Session) (f : FinishedFrame) (area : List ℕ) where
-  abbrev pub met : ℕ
-  met = by_header (header_of_frame f) 2 3 (cond (eqb f.command 0xF9) 0 (cond (ltb (place_for s f) s.count) 12 4))
+  abbrev pub met : Outcome
+  met =
+      by_header (header_of_frame f) unlisted_command wrong_header
+      (cond (eqb f.command 0xF9) accepted (cond (ltb (place_for s f) s.count) check_runs unlisted_channel))
 
   pub running-answers : unlawful s ≡ false → length area ≡ s.opened → s.transfer.check.running ≡ true
       → reaction s f area ≡ unwritten (unchanged met s) area
@@ -204,19 +209,19 @@ module _ (s : Session) (f : FinishedFrame) (area : List ℕ) where
 
 -- while none runs, no frame gets 12
 pub still-answers : (s : Session) (f : FinishedFrame) (area : List ℕ) → s.transfer.check.running ≡ false
-    → (answered s f area).outcome ≡ 12 → ⊥
+    → (answered s f area).outcome ≡ check_runs → ⊥
 unfolding reaction judged routed
 still-answers s f area still =
-    let P : Effect Answer → Type 0 = λ x. x.gives.outcome ≡ 12 → ⊥ in
+    let P : Effect Answer → Type 0 = λ x. x.gives.outcome ≡ check_runs → ⊥ in
     let step = (effect_of s.transfer f (get_or s.boards (place_for s f) past_board) area).gives in
-    of-both P (unlawful s) _ _ (λ z. omega arith)
-    (of-both P (not (eqb (length area) s.opened)) _ _ (λ z. omega arith)
-    (by-header P (header_of_frame f) _ _ _ (λ z. omega arith) (λ z. omega arith)
-    (of-both P (eqb f.command 0xF9) _ _ (λ z. omega arith)
+    of-both P (unlawful s) _ _ (same-false _ _ refl)
+    (of-both P (not (eqb (length area) s.opened)) _ _ (same-false _ _ refl)
+    (by-header P (header_of_frame f) _ _ _ (same-false _ _ refl) (same-false _ _ refl)
+    (of-both P (eqb f.command 0xF9) _ _ (same-false _ _ refl)
     (of-both P (ltb (place_for s f) s.count) _ _
     (of_each P s.transfer.check.running _ _ (λ e. false_true (sym still ∙ e))
-    (λ _. of-both (λ (n : ℕ). n ≡ 12 → ⊥) step.answered 0 10 (λ z. omega arith) (λ z. omega arith)))
-    (λ z. omega arith)))))
+    (λ _. of-both (λ (n : Outcome). n ≡ check_runs → ⊥) step.answered accepted wrong_phase (same-false _ _ refl) (same-false _ _ refl)))
+    (same-false _ _ refl)))))
 
 -- ---- what a running check comes to
 

@@ -27,6 +27,7 @@ use Rattle.transfer.specs.Transfers.{Effect, unwritten, with_check, other_channe
 use Rattle.ending.specs.FE.{reaches_crc, answer_fe, ended_fe}
 use Rattle.ending.specs.Portions.{right_crc}
 use Rattle.transfer.proofs.PhaseLaws.{image_busy, ending-image}
+use Rattle.commands.specs.Outcomes.{accepted, unlisted_channel, wrong_phase}
 use Rattle.session.specs.declared.session.Session.{Session}
 use Rattle.session.specs.declared.answer.Answer.{Answer}
 use Rattle.boards.specs.Boards.{past_board, place_of}
@@ -38,6 +39,7 @@ use Rattle.session.specs.EndRequest.{IsEndRequest, Complete, SuccessIn, EndReque
 use Rattle.session.proofs.Headers.{by-header}
 use Rattle.session.proofs.Lawfuls.{lawful}
 use Rattle.session.proofs.OneGoes.{called_in_one_go}
+use Rattle.commands.proofs.Outcomes.{same-false}
 
 -- ---- the transfer's part
 
@@ -149,48 +151,48 @@ module _ (s : Session) (f : FinishedFrame) (channel : ℕ) (area : List ℕ) (e 
   -- while none runs
   module _ (still : t.check.running ≡ false) where
     -- past 9, 6, 2, 3 and 12
-    fe-reaction : reaction s f area ≡ cond listed (within s (unwritten (answer_fe t channel) area)) (unwritten (unchanged 4 s) area)
+    fe-reaction : reaction s f area ≡ cond listed (within s (unwritten (answer_fe t channel) area)) (unwritten (unchanged unlisted_channel s) area)
     unfolding reaction judged routed effect_of
     fe-reaction =
         let header = fe-header f channel r in
         rw (e, eq-eqb (length area) s.opened size, header, still) (simp (r.command, r.for))
 
-    fe-routed : answered s f area ≡ cond listed (stepped s (answer_fe t channel)) (unchanged 4 s)
+    fe-routed : answered s f area ≡ cond listed (stepped s (answer_fe t channel)) (unchanged unlisted_channel s)
     fe-routed = ap (λ (x : Effect Answer). x.gives) fe-reaction ∙ out listed
       where
-        out : (b : Bool) → (cond b (within s (unwritten (answer_fe t channel) area)) (unwritten (unchanged 4 s) area)).gives ≡ cond b
-            (stepped s (answer_fe t channel)) (unchanged 4 s)
+        out : (b : Bool) → (cond b (within s (unwritten (answer_fe t channel) area)) (unwritten (unchanged unlisted_channel s) area)).gives ≡ cond b
+            (stepped s (answer_fe t channel)) (unchanged unlisted_channel s)
         out true = refl
         out false = refl
 
     -- with the check in one go
-    in-one-go : in_one_go s f area ≡ cond listed (stepped s (go_fe t channel area)) (unchanged 4 s)
+    in-one-go : in_one_go s f area ≡ cond listed (stepped s (go_fe t channel area)) (unchanged unlisted_channel s)
     unfolding answer_fe go_fe ended_fe
     in-one-go = go listed (early t channel) (short t) refl refl refl
       where
         go : (l a b : Bool) → listed ≡ l → early t channel ≡ a → short t ≡ b
-            → in_one_go s f area ≡ cond listed (stepped s (go_fe t channel area)) (unchanged 4 s)
+            → in_one_go s f area ≡ cond listed (stepped s (go_fe t channel area)) (unchanged unlisted_channel s)
         go false a b el ea eb = called_in_one_go s f area e size ∙ rw fe-routed (simp (el, still))
         go true true b el ea eb = called_in_one_go s f area e size ∙ rw fe-routed (simp (el, ea, still))
         go true false true el ea eb = called_in_one_go s f area e size ∙ rw fe-routed (simp (el, ea, eb, still))
         go true false false el ea eb = called_in_one_go s f area e size ∙ rw fe-routed (simp (el, ea, eb))
 
-    chosen : (l : Bool) → listed ≡ l → in_one_go s f area ≡ cond l (stepped s (go_fe t channel area)) (unchanged 4 s)
-    chosen l el = in-one-go ∙ ap (λ (x : Bool). cond x (stepped s (go_fe t channel area)) (unchanged 4 s)) el
+    chosen : (l : Bool) → listed ≡ l → in_one_go s f area ≡ cond l (stepped s (go_fe t channel area)) (unchanged unlisted_channel s)
+    chosen l el = in-one-go ∙ ap (λ (x : Bool). cond x (stepped s (go_fe t channel area)) (unchanged unlisted_channel s)) el
 
     forwards : SuccessIn channel (in_one_go s f area) → Complete t channel area
     forwards p = go listed refl
       where
         go : (b : Bool) → listed ≡ b → Complete t channel area
         go true eb = success-complete t channel area (sym (ap (λ (x : Answer). x.reply) (chosen true eb)) ∙ p.reply)
-        go false eb = absurd (let z = sym (ap (λ (x : Answer). x.outcome) (chosen false eb)) ∙ p.answered in omega arith)
+        go false eb = absurd (same-false unlisted_channel accepted refl (sym (ap (λ (x : Answer). x.outcome) (chosen false eb)) ∙ p.answered))
 
     backwards : Complete t channel area → SuccessIn channel (in_one_go s f area)
     backwards c =
         let a = chosen true (complete-listed c) in
         let ok = go-answered t channel area in
         record {
-          answered = ap (λ (x : Answer). x.outcome) a ∙ ap (λ (b : Bool). cond b 0 10) ok.0;
+          answered = ap (λ (x : Answer). x.outcome) a ∙ ap (λ (b : Bool). cond b accepted wrong_phase) ok.0;
           replies = ap (λ (x : Answer). x.replies) a ∙ ok.1;
           reply = ap (λ (x : Answer). x.reply) a ∙ complete-success t channel area c;
         }
@@ -200,7 +202,7 @@ module _ (s : Session) (f : FinishedFrame) (channel : ℕ) (area : List ℕ) (e 
     none-starts none =
         ap (λ (x : Answer). x.session.transfer.check.running) fe-routed
         ∙ of-both (λ (x : Answer). x.session.transfer.check.running ≡ false) listed (stepped s (answer_fe t channel))
-        (unchanged 4 s) none still
+        (unchanged unlisted_channel s) none still
 
     -- it starts a check exactly when it gets as far as the CRC
     pub starts-at-crc : (answered s f area).session.transfer.check.running ≡ reaches_crc t channel
@@ -231,14 +233,14 @@ module _ (s : Session) (f : FinishedFrame) (channel : ℕ) (area : List ℕ) (e 
 
     -- one that starts none is answered 03 or 01, or not at all
     pub early-answers : (answered s f area).session.transfer.check.running ≡ false
-        → (answered s f area ≡ unchanged 4 s) ⊎
+        → (answered s f area ≡ unchanged unlisted_channel s) ⊎
         ((answered s f area ≡ stepped s (replied t (reply_state channel 3))) ⊎
         (answered s f area ≡ stepped s (replied t (reply_state channel 1))))
     unfolding answer_fe
     early-answers none = go listed (early t channel) (short t) refl refl refl
       where
         go : (l a b : Bool) → listed ≡ l → early t channel ≡ a → short t ≡ b
-            → (answered s f area ≡ unchanged 4 s) ⊎
+            → (answered s f area ≡ unchanged unlisted_channel s) ⊎
             ((answered s f area ≡ stepped s (replied t (reply_state channel 3))) ⊎
             (answered s f area ≡ stepped s (replied t (reply_state channel 1))))
         go false a b el ea eb = inl (fe-routed ∙ simp el)
@@ -260,7 +262,7 @@ module _ (s : Session) (f : FinishedFrame) (channel : ℕ) (area : List ℕ) (e 
             absurd (let z : ◌≡◌ {A = ℕ} 0 1 = cc in omega arith)
 
         go : (l a b : Bool) → listed ≡ l → early t channel ≡ a → short t ≡ b → Complete t channel area
-        go false a b el ea eb = no (unchanged 4 s) (fe-routed ∙ simp el) still
+        go false a b el ea eb = no (unchanged unlisted_channel s) (fe-routed ∙ simp el) still
         go true true b el ea eb = no (stepped s (replied t (reply_state channel 3))) (fe-routed ∙ simp (el, ea)) still
         go true false true el ea eb = no (stepped s (replied t (reply_state channel 1))) (fe-routed ∙ simp (el, ea, eb)) still
         go true false false el ea eb =

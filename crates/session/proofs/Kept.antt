@@ -33,6 +33,8 @@ use Rattle.transfer.proofs.PhaseLaws.{image_busy, receiving_busy, started-image,
 use Rattle.sequences.proofs.Places.{written-size}
 use Rattle.image.proofs.Storing.{storing-within, storing-last, storing-last-stored}
 use Rattle.packets.proofs.Packets.{taken}
+use Rattle.commands.specs.declared.outcome.Outcome.{Outcome}
+use Rattle.commands.specs.Outcomes.{accepted, unlisted_command, wrong_header, unlisted_channel, other_area, rules_broken, check_runs}
 use Rattle.session.specs.declared.session.Session.{Session}
 use Rattle.session.specs.declared.answer.Answer.{Answer}
 use Rattle.boards.specs.Boards.{past_board, place_of}
@@ -228,20 +230,20 @@ pub answer_keeps : (s : Session) (f : FinishedFrame) (area : List ℕ) → unlaw
 unfolding reaction judged routed
 answer_keeps s f area e =
     let P : Effect Answer → Type 0 = λ x. StaysOpened s x.gives in
-    let same : (n : ℕ) → P (unwritten (unchanged n s) area) =
+    let same : (n : Outcome) → P (unwritten (unchanged n s) area) =
     λ n. record { lawful = e; same-list = refl; same_count = refl; same-opened = refl } in
-    of_each P (unlawful s) _ _ (λ _. same 9)
-    (λ _. of_each P (not (eqb (length area) s.opened)) _ _ (λ _. same 6)
+    of_each P (unlawful s) _ _ (λ _. same rules_broken)
+    (λ _. of_each P (not (eqb (length area) s.opened)) _ _ (λ _. same other_area)
     (λ z.
     let size = eqb-true (length area) s.opened (not-false _ z) in
-    by-header P (header_of_frame f) _ _ _ (same 2) (same 3)
-    (of-both P (eqb f.command 0xF9) _ _ (same 0)
+    by-header P (header_of_frame f) _ _ _ (same unlisted_command) (same wrong_header)
+    (of-both P (eqb f.command 0xF9) _ _ (same accepted)
     (of_each P (ltb (place_for s f) s.count) _ _
-    (λ here. of_each P s.transfer.check.running _ _ (λ _. same 12)
+    (λ here. of_each P s.transfer.check.running _ _ (λ _. same check_runs)
     (λ still.
     let next = step_kept s (lawful s e) still f (get_or s.boards (place_for s f) past_board) area size (ltb-true _ _ here) in
     record { lawful = lawful-accepted _ next; same-list = refl; same_count = refl; same-opened = refl }))
-    (λ _. same 4)))))
+    (λ _. same unlisted_channel)))))
 
 -- the area keeps its length
 pub area-size : (s : Session) (f : FinishedFrame) (area : List ℕ) → length (area_after s f area) ≡ length area

@@ -10,6 +10,7 @@ use lib.ListN.{length}
 use Rattle.sequences.specs.Search.{find}
 use Rattle.boards.specs.declared.board.Board.{Board}
 use Rattle.sequences.proofs.Conditionals.{neither}
+use Rattle.commands.specs.declared.outcome.Outcome.{Outcome}
 use Rattle.commands.specs.Outcomes.{accepted, bad_area_length, bad_boards}
 use Rattle.boards.specs.Boards.{max_boards, bad_list, GoodList}
 use Rattle.commands.specs.Limits.{max_area}
@@ -20,6 +21,7 @@ use Rattle.boards.proofs.Places.{list-fits, list_same}
 use Rattle.session.proofs.Lawfuls.{lawful-accepted}
 use mathlib.Core.Logic.{◌↔◌}
 use Rattle.boards.proofs.ListRules.{list_rule}
+use Rattle.commands.proofs.Outcomes.{same-false}
 
 fresh-lawful : (bs : List Board) (n area : ℕ) → length bs ≡ max_boards → bad_list bs n ≡ false → bad_area area ≡ false
     → Lawful (fresh_session bs n area)
@@ -49,8 +51,8 @@ unfolding opened
 open_usable bs n area size z = go (bad_list bs n) (bad_area area) refl refl
   where
     go : (a b : Bool) → bad_list bs n ≡ a → bad_area area ≡ b → Usable bs n area
-    go true b ea eb = absurd (let y = simp ea at z in omega arith)
-    go false true ea eb = absurd (let y = simp (ea, eb) at z in omega arith)
+    go true b ea eb = absurd (same-false _ _ refl (simp ea at z))
+    go false true ea eb = absurd (same-false _ _ refl (simp (ea, eb) at z))
     go false false ea eb =
         let is : (opened bs n area).session ≡ fresh_session bs n area = simp (ea, eb) in
         record { fresh = is; lawful = ap unlawful is ∙ lawful-accepted (fresh_session bs n area) (fresh-lawful bs n area size ea eb) }
@@ -79,7 +81,7 @@ area-good : (area : ℕ) → GoodArea area → bad_area area ≡ false
 area-good area g = ap₂ ◌||◌ (le-ltb area 1 g.0) (le-ltb max_area area g.1)
 
 -- the outcome, by the two tests
-abbrev by_tests : Bool → Bool → ℕ
+abbrev by_tests : Bool → Bool → Outcome
 by_tests a b = cond a bad_boards (cond b bad_area_length accepted)
 
 opened-by : (bs : List Board) (n area : ℕ) → (opened bs n area).outcome ≡ by_tests (bad_list bs n) (bad_area area)
@@ -102,7 +104,7 @@ module _ (bs : List Board) (n area : ℕ) where
   not_area e g = let z = sym e ∙ area-good area g in let y : ◌≡◌ {A = ℕ} 0 1 = cc in omega arith
 
   -- what holds of each outcome by the two tests
-  by-outcome : (P : ℕ → Type 0) → (bad_list bs n ≡ true → P bad_boards) → (bad_list bs n ≡ false → bad_area area ≡ true → P bad_area_length)
+  by-outcome : (P : Outcome → Type 0) → (bad_list bs n ≡ true → P bad_boards) → (bad_list bs n ≡ false → bad_area area ≡ true → P bad_area_length)
       → (bad_list bs n ≡ false → bad_area area ≡ false → P accepted) → P (opened bs n area).outcome
   by-outcome P x y z = subst P (sym (opened-by bs n area)) (go (bad_list bs n) (bad_area area) refl refl)
     where
@@ -115,21 +117,21 @@ module _ (bs : List Board) (n area : ℕ) where
   opens_8 =
       by-outcome (λ k. (k ≡ bad_boards) ↔ (GoodList bs n → ⊥))
       (λ e. (λ _. not_good e, λ _. refl))
-      (λ e f. (λ z. absurd (omega arith), λ bad. absurd (bad (good e))))
-      (λ e f. (λ z. absurd (omega arith), λ bad. absurd (bad (good e))))
+      (λ e f. (λ z. absurd (same-false _ _ refl z), λ bad. absurd (bad (good e))))
+      (λ e f. (λ z. absurd (same-false _ _ refl z), λ bad. absurd (bad (good e))))
 
   opens_7 : ((opened bs n area).outcome ≡ bad_area_length) ↔ (GoodList bs n × (GoodArea area → ⊥))
   opens_7 =
       by-outcome (λ k. (k ≡ bad_area_length) ↔ (GoodList bs n × (GoodArea area → ⊥)))
-      (λ e. (λ z. absurd (omega arith), λ w. absurd (not_good e w.0)))
+      (λ e. (λ z. absurd (same-false _ _ refl z), λ w. absurd (not_good e w.0)))
       (λ e f. (λ _. (good e, not_area f), λ _. refl))
-      (λ e f. (λ z. absurd (omega arith), λ w. absurd (w.1 (good-area area f))))
+      (λ e f. (λ z. absurd (same-false _ _ refl z), λ w. absurd (w.1 (good-area area f))))
 
   opens_0 : ((opened bs n area).outcome ≡ accepted) ↔ (GoodList bs n × GoodArea area)
   opens_0 =
       by-outcome (λ k. (k ≡ accepted) ↔ (GoodList bs n × GoodArea area))
-      (λ e. (λ z. absurd (omega arith), λ w. absurd (not_good e w.0)))
-      (λ e f. (λ z. absurd (omega arith), λ w. absurd (not_area f w.1)))
+      (λ e. (λ z. absurd (same-false _ _ refl z), λ w. absurd (not_good e w.0)))
+      (λ e f. (λ z. absurd (same-false _ _ refl z), λ w. absurd (not_area f w.1)))
       (λ e f. (λ _. (good e, good-area area f), λ _. refl))
 
 pub session-opens : SessionOpens

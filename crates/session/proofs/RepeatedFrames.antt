@@ -39,9 +39,11 @@ use Rattle.session.proofs.Kept.{answer_keeps, area-size}
 use Rattle.agreement.specs.FA.{refused_fa, answer_fa}
 use Rattle.ending.specs.FE.{reaches_crc}
 use Rattle.ending.proofs.Results.{unreached_unmoved}
-use Rattle.commands.specs.Outcomes.{accepted}
+use Rattle.commands.specs.declared.outcome.Outcome.{Outcome}
+use Rattle.commands.specs.Outcomes.{accepted, unlisted_command, wrong_header, unlisted_channel, other_area, rules_broken, check_runs}
 use Rattle.session.proofs.Unanswered.{nothing_changed}
 use Rattle.packets.specs.Repeats.{Packet, TransferAndArea, state_to, then_packet}
+use Rattle.commands.proofs.Outcomes.{same-false}
 
 -- ---- a frame FD reaches the transfer
 
@@ -63,7 +65,7 @@ module _ (x : SessionAndArea) (f : FinishedFrame) where
   abbrev Left : Effect Answer → Type 0
   Left e = (e.gives.session ≡ at) × (e.area ≡ x.area)
 
-  same : (n : ℕ) → Left (unwritten (unchanged n at) x.area)
+  same : (n : Outcome) → Left (unwritten (unchanged n at) x.area)
   same n = (refl, refl)
 
   left_alone : Left (reaction at f x.area) → then_frame x f ≡ x
@@ -74,13 +76,13 @@ module _ (x : SessionAndArea) (f : FinishedFrame) where
   unfolding reaction judged routed
   by-transfer step =
       left_alone
-      (of-both Left (unlawful at) _ _ (same 9)
-      (of-both Left (not (eqb (length x.area) at.opened)) _ _ (same 6)
-      (by-header Left (header_of_frame f) _ _ _ (same 2) (same 3)
-      (of_each Left (eqb f.command 0xF9) _ _ (λ _. same 0)
+      (of-both Left (unlawful at) _ _ (same rules_broken)
+      (of-both Left (not (eqb (length x.area) at.opened)) _ _ (same other_area)
+      (by-header Left (header_of_frame f) _ _ _ (same unlisted_command) (same wrong_header)
+      (of_each Left (eqb f.command 0xF9) _ _ (λ _. same accepted)
       (λ no. of-both Left (ltb (place_for at f) at.count) _ _
-      (of-both Left at.transfer.check.running _ _ (same 12) (step (eqb-false f.command 0xF9 no)))
-      (same 4))))))
+      (of-both Left at.transfer.check.running _ _ (same check_runs) (step (eqb-false f.command 0xF9 no)))
+      (same unlisted_channel))))))
 
   pub fd-untaken : f.command ≡ 0xFD → takes at.transfer (fields_of f) (packet_in f) x.area ≡ false → then_frame x f ≡ x
   fd-untaken is e =
@@ -141,16 +143,16 @@ with_00 s g area is =
     let P : Effect Answer → Type 0 = λ e. AnswersWith e.gives (fields_of g) 0
     → state_fd s.transfer (fields_of g) (packet_in g) area ≡ 0 in
     let b = get_or s.boards (place_for s g) past_board in
-    of-both P (unlawful s) _ _ (λ w. let z = w.0 in absurd (omega arith))
-    (of-both P (not (eqb (length area) s.opened)) _ _ (λ w. let z = w.0 in absurd (omega arith))
-    (by-header P (header_of_frame g) _ _ _ (λ w. let z = w.0 in absurd (omega arith)) (λ w. let z = w.0 in absurd (omega arith))
+    of-both P (unlawful s) _ _ (λ w. absurd (same-false _ _ refl w.0))
+    (of-both P (not (eqb (length area) s.opened)) _ _ (λ w. absurd (same-false _ _ refl w.0))
+    (by-header P (header_of_frame g) _ _ _ (λ w. absurd (same-false _ _ refl w.0)) (λ w. absurd (same-false _ _ refl w.0))
     (of_each P (eqb g.command 0xF9) _ _ (λ e. let z = eqb-true g.command 0xF9 e in absurd (omega arith))
     (λ _. of-both P (ltb (place_for s g) s.count) _ _
-    (of-both P s.transfer.check.running _ _ (λ w. let z = w.0 in absurd (omega arith))
+    (of-both P s.transfer.check.running _ _ (λ w. absurd (same-false _ _ refl w.0))
     (λ w. state-of (fields_of g).channel _
     (sym (replies-state s.transfer (fields_of g) (packet_in g) area)
     ∙ ap (λ (u : Effect Step). u.gives.reply) (sym (fd-effect s.transfer g is b area)) ∙ w.1)))
-    (λ w. let z = w.0 in absurd (omega arith))))))
+    (λ w. absurd (same-false _ _ refl w.0))))))
 
 -- ---- the frame itself
 

@@ -15,6 +15,8 @@ use Rattle.sequences.specs.Search.{find}
 use Rattle.commands.specs.Table.{table, row_at, place_in_table, header_of}
 use Rattle.replies.specs.Replies.{has_reply}
 use Rattle.transfer.specs.Transfers.{Effect, unwritten}
+use Rattle.commands.specs.declared.outcome.Outcome.{Outcome}
+use Rattle.commands.specs.Outcomes.{accepted, unlisted_command, wrong_header, other_area, rules_broken}
 use Rattle.session.specs.declared.session.Session.{Session}
 use Rattle.session.specs.declared.answer.Answer.{Answer}
 use Rattle.session.specs.Lawful.{unlawful}
@@ -63,20 +65,20 @@ module _ (s : Session) (f : FinishedFrame) (area : List ℕ) where
   abbrev Listed : Effect Answer → Type 0
   Listed x = x.gives.replies ≡ true → has_reply f.command ≡ true
 
-  silent : (n : ℕ) → Listed (unwritten (unchanged n s) area)
+  silent : (n : Outcome) → Listed (unwritten (unchanged n s) area)
   silent n e = let z : ◌≡◌ {A = ℕ} 0 1 = cc in absurd (omega arith)
 
   refused : (x : Effect Answer) → Listed x
-      → Listed (cond (unlawful s) (unwritten (unchanged 9 s) area)
-      (cond (not (eqb (length area) s.opened)) (unwritten (unchanged 6 s) area) x))
-  refused x p = of-both Listed (unlawful s) _ _ (silent 9) (of-both Listed (not (eqb (length area) s.opened)) _ _ (silent 6) p)
+      → Listed (cond (unlawful s) (unwritten (unchanged rules_broken s) area)
+      (cond (not (eqb (length area) s.opened)) (unwritten (unchanged other_area s) area) x))
+  refused x p = of-both Listed (unlawful s) _ _ (silent rules_broken) (of-both Listed (not (eqb (length area) s.opened)) _ _ (silent other_area) p)
 
   pub replied-command : Listed (reaction s f area)
   unfolding reaction judged routed
   replied-command = go (header_of_frame f) (eqb f.command 0xF9) refl refl
     where
       go : (h : Header) (b : Bool) → header_of_frame f ≡ h → eqb f.command 0xF9 ≡ b → Listed (reaction s f area)
-      go Unlisted b eh e9 = rw eh (refused (unwritten (unchanged 2 s) area) (silent 2))
-      go Wrong b eh e9 = rw eh (refused (unwritten (unchanged 3 s) area) (silent 3))
-      go Right true eh e9 = rw (eh, e9) (refused (unwritten (unchanged 0 s) area) (silent 0))
+      go Unlisted b eh e9 = rw eh (refused (unwritten (unchanged unlisted_command s) area) (silent unlisted_command))
+      go Wrong b eh e9 = rw eh (refused (unwritten (unchanged wrong_header s) area) (silent wrong_header))
+      go Right true eh e9 = rw (eh, e9) (refused (unwritten (unchanged accepted s) area) (silent accepted))
       go Right false eh e9 = λ _. has-reply f eh e9

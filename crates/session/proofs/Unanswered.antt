@@ -22,12 +22,14 @@ use Rattle.ending.specs.FE.{answer_fe}
 use Rattle.sequences.proofs.Conditionals.{of-both, of_each}
 use Rattle.session.specs.declared.session.Session.{Session}
 use Rattle.session.specs.declared.answer.Answer.{Answer}
-use Rattle.commands.specs.Outcomes.{accepted}
+use Rattle.commands.specs.declared.outcome.Outcome.{Outcome}
+use Rattle.commands.specs.Outcomes.{accepted, unlisted_command, wrong_header, unlisted_channel, short_room, other_area, rules_broken, wrong_phase, check_runs}
 use Rattle.boards.specs.Boards.{past_board}
 use Rattle.session.specs.Lawful.{unlawful}
 use Rattle.session.specs.Answering.{unchanged, within, place_for, effect_of, routed, header_of_frame, judged, reaction, answered}
 use Rattle.session.proofs.Headers.{by-header}
 use Rattle.session.specs.Unanswered.{NothingChanged, Unanswered}
+use Rattle.commands.proofs.Outcomes.{same-false}
 
 -- a step without an answer leaves the transfer and has no reply
 abbrev Still : Transfer → Step → Type 0
@@ -86,7 +88,7 @@ module _ (t : Transfer) where
 abbrev Quiet : Session → List ℕ → Effect Answer → Type 0
 Quiet s area x = (x.gives.outcome ≡ accepted → ⊥) → NothingChanged s area x.gives x.area
 
-unchanged-quiet : (s : Session) (area : List ℕ) (n : ℕ) → Quiet s area (unwritten (unchanged n s) area)
+unchanged-quiet : (s : Session) (area : List ℕ) (n : Outcome) → Quiet s area (unwritten (unchanged n s) area)
 unchanged-quiet s area n z = record { session = refl; no-reply = refl; no_data_lem = refl; same_area = refl }
 
 stepped-quiet : (s : Session) (f : FinishedFrame) (b : Board) (area : List ℕ) → Quiet s area (within s (effect_of s.transfer f b area))
@@ -94,7 +96,7 @@ stepped-quiet s f b area z = go (effect_of s.transfer f b area).gives.answered r
   where
     go : (x : Bool) → (effect_of s.transfer f b area).gives.answered ≡ x
         → NothingChanged s area (within s (effect_of s.transfer f b area)).gives (within s (effect_of s.transfer f b area)).area
-    go true e = absurd (z (ap (λ (x : Bool). cond x 0 10) e))
+    go true e = absurd (z (ap (λ (x : Bool). cond x accepted wrong_phase) e))
     go false e =
         let still = step-still s.transfer f b area e in
         record {
@@ -110,19 +112,19 @@ unfolding reaction judged routed
 nothing_changed s f area =
     let P = Quiet s area in
     let same = unchanged-quiet s area in
-    of-both P (unlawful s) _ _ (same 9)
-    (of-both P (not (eqb (length area) s.opened)) _ _ (same 6)
-    (by-header P (header_of_frame f) _ _ _ (same 2) (same 3)
-    (of-both P (eqb f.command 0xF9) _ _ (same 0)
+    of-both P (unlawful s) _ _ (same rules_broken)
+    (of-both P (not (eqb (length area) s.opened)) _ _ (same other_area)
+    (by-header P (header_of_frame f) _ _ _ (same unlisted_command) (same wrong_header)
+    (of-both P (eqb f.command 0xF9) _ _ (same accepted)
     (of-both P (ltb (place_for s f) s.count) _ _
-    (of-both P s.transfer.check.running _ _ (same 12) (stepped-quiet s f (get_or s.boards (place_for s f) past_board) area))
-    (same 4)))))
+    (of-both P s.transfer.check.running _ _ (same check_runs) (stepped-quiet s f (get_or s.boards (place_for s f) past_board) area))
+    (same unlisted_channel)))))
 
 -- ---- a lawful session with its own area refuses nothing as a call does
 
 -- not 5, 6 or 9
-abbrev pub NoRefusal : ℕ → Type 0
-NoRefusal n = (n ≡ 5 → ⊥) × ((n ≡ 6 → ⊥) × (n ≡ 9 → ⊥))
+abbrev pub NoRefusal : Outcome → Type 0
+NoRefusal n = (n ≡ short_room → ⊥) × ((n ≡ other_area → ⊥) × (n ≡ rules_broken → ⊥))
 
 pub answer_accepts : (s : Session) (f : FinishedFrame) (area : List ℕ) → unlawful s ≡ false → length area ≡ s.opened
     → NoRefusal (answered s f area).outcome
@@ -133,11 +135,11 @@ answer_accepts s f area e size =
     of_each P (unlawful s) _ _ (λ x. absurd (no (unlawful s) e x))
     (λ _. of_each P (not (eqb (length area) s.opened)) _ _
     (λ x. absurd (no (not (eqb (length area) s.opened)) (ap not (eq-eqb (length area) s.opened size)) x))
-    (λ _. by-header P (header_of_frame f) _ _ _ (λ z. omega arith, (λ z. omega arith, λ z. omega arith))
-    (λ z. omega arith, (λ z. omega arith, λ z. omega arith))
-    (of-both P (eqb f.command 0xF9) _ _ (λ z. omega arith, (λ z. omega arith, λ z. omega arith))
+    (λ _. by-header P (header_of_frame f) _ _ _ (same-false _ _ refl, (same-false _ _ refl, same-false _ _ refl))
+    (same-false _ _ refl, (same-false _ _ refl, same-false _ _ refl))
+    (of-both P (eqb f.command 0xF9) _ _ (same-false _ _ refl, (same-false _ _ refl, same-false _ _ refl))
     (of-both P (ltb (place_for s f) s.count) _ _
-    (of-both P s.transfer.check.running _ _ (λ z. omega arith, (λ z. omega arith, λ z. omega arith))
-    (of-both NoRefusal (effect_of s.transfer f (get_or s.boards (place_for s f) past_board) area).gives.answered 0 10
-    (λ z. omega arith, (λ z. omega arith, λ z. omega arith)) (λ z. omega arith, (λ z. omega arith, λ z. omega arith))))
-    (λ z. omega arith, (λ z. omega arith, λ z. omega arith))))))
+    (of-both P s.transfer.check.running _ _ (same-false _ _ refl, (same-false _ _ refl, same-false _ _ refl))
+    (of-both NoRefusal (effect_of s.transfer f (get_or s.boards (place_for s f) past_board) area).gives.answered accepted wrong_phase
+    (same-false _ _ refl, (same-false _ _ refl, same-false _ _ refl)) (same-false _ _ refl, (same-false _ _ refl, same-false _ _ refl))))
+    (same-false _ _ refl, (same-false _ _ refl, same-false _ _ refl))))))

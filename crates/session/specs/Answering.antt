@@ -19,13 +19,14 @@ use Rattle.packets.specs.FD.{effect_fd}
 use Rattle.ending.specs.FE.{answer_fe}
 use Rattle.session.specs.declared.session.Session.{Session}
 use Rattle.session.specs.declared.answer.Answer.{Answer}
+use Rattle.commands.specs.declared.outcome.Outcome.{Outcome}
 use Rattle.commands.specs.Outcomes.{accepted, unlisted_command, wrong_header, unlisted_channel, other_area, rules_broken, wrong_phase, check_runs}
 use Rattle.boards.specs.Boards.{past_board, place_of}
 use Rattle.session.specs.Transfers.{transfer_on, with_transfer}
 use Rattle.session.specs.Lawful.{unlawful}
 
 -- no reply, nothing changed
-abbrev pub unchanged : ℕ → Session → Answer
+abbrev pub unchanged : Outcome → Session → Answer
 unchanged outcome s = record { outcome = outcome; replies = false; session = s; reply = zeros max_reply }
 
 -- the transfer's answer; outcome 10 where there is none

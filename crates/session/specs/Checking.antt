@@ -10,17 +10,18 @@ use Rattle.ending.specs.declared.check.CheckStep.{CheckStep}
 use Rattle.ending.specs.Portions.{check_step}
 use Rattle.session.specs.declared.session.Session.{Session}
 use Rattle.session.specs.declared.check.Checked.{Checked}
+use Rattle.commands.specs.declared.outcome.Outcome.{Outcome}
 use Rattle.commands.specs.Outcomes.{accepted, other_area, rules_broken, no_check_runs, unfinished}
 use Rattle.session.specs.Transfers.{own_transfer, with_transfer}
 use Rattle.session.specs.Lawful.{unlawful}
 
-abbrev pub outcome_of : Verdict → ℕ
+abbrev pub outcome_of : Verdict → Outcome
 outcome_of Unfinished = unfinished
 outcome_of Right = accepted
 outcome_of Wrong = accepted
 
 -- refused: "count 0, unfinished, nothing changed"
-abbrev pub refused_check : ℕ → Session → Checked
+abbrev pub refused_check : Outcome → Session → Checked
 refused_check outcome s = record { outcome = outcome; count = 0; verdict = Unfinished; replies = false; session = s; reply = zeros max_reply }
 
 abbrev pub checked_by : Session → CheckStep → Checked

@@ -4,7 +4,7 @@ ghost use Rattle.session.specs.Checking.{outcome_of, refused_check, checked_by, 
 
 use crate::session::Session;
 use commands::limits::MAX_REPLY;
-use commands::outcome;
+use commands::outcome::Outcome;
 use ending::check;
 use ending::check::CheckStep;
 use image::check::Verdict;
@@ -13,7 +13,7 @@ use replies::reply;
 // What a portion call makes of a session. A refused one reads nothing, has no verdict and changes nothing.
 #[derive(Clone, Copy)]
 pub struct Checked {
-    pub outcome: u8,
+    pub outcome: Outcome,
     pub count: usize,
     pub verdict: Verdict,
     pub replies: bool,
@@ -24,28 +24,28 @@ pub struct Checked {
 impl Session {
     // Reads at most `most` bytes of the image on. An unlawful session, an area of another length than the opened one, and a session whose
     // check does not run are refused.
+    #[tactic(auto, unfolding(crate::specs::Checking::checked))]
     pub fn portion(self, most: usize, area: &[u8]) -> Checked
         ensures { result ≡ checked self most area.now }
     {
         if self.unlawful() {
-            return Checked::refused(outcome::RULES_BROKEN, self);
+            return Checked::refused(Outcome::RulesBroken, self);
         }
         if area.len() != self.opened {
-            return Checked::refused(outcome::OTHER_AREA, self);
+            return Checked::refused(Outcome::OtherArea, self);
         }
-        let transfer = self.transfer;
-        if transfer.check.running {
-            let portion = check::portion(transfer, most, area);
-            return Checked::portion(self, portion);
+        if !self.transfer.check.running {
+            return Checked::refused(Outcome::NoCheckRuns, self);
         }
-        Checked::refused(outcome::NO_CHECK_RUNS, self)
+        Checked::portion(self, check::portion(self.transfer, most, area))
     }
 }
 
 impl Checked {
-    fn refused(outcome: u8, session: Session) -> Checked
+    fn refused(outcome: Outcome, session: Session) -> Checked
         ensures { result ≡ refused_check outcome session }
     {
+        // The borrow checker takes an array into a literal only by a name.
         let reply = reply::none();
         Checked {
             outcome,
@@ -60,27 +60,24 @@ impl Checked {
     fn portion(session: Session, portion: CheckStep) -> Checked
         ensures { result ≡ checked_by session «portion» }
     {
-        let step = portion.step;
-        let reply = step.reply;
-        let verdict = portion.verdict;
-        let next = session.with_transfer(step.transfer);
+        // The borrow checker takes an array into a literal only by a name.
+        let reply = portion.step.reply;
         Checked {
-            outcome: outcome_of(verdict),
+            outcome: outcome_of(portion.verdict),
             count: portion.count,
-            verdict,
-            replies: step.replies,
-            session: next,
+            verdict: portion.verdict,
+            replies: portion.step.replies,
+            session: session.with_transfer(portion.step.transfer),
             reply,
         }
     }
 }
 
-fn outcome_of(verdict: Verdict) -> u8
+fn outcome_of(verdict: Verdict) -> Outcome
     ensures { result ≡ outcome_of verdict }
 {
     match verdict {
-        Verdict::Unfinished => outcome::UNFINISHED,
-        Verdict::Right => outcome::ACCEPTED,
-        Verdict::Wrong => outcome::ACCEPTED,
+        Verdict::Unfinished => Outcome::Unfinished,
+        Verdict::Right | Verdict::Wrong => Outcome::Accepted,
     }
 }

@@ -5,7 +5,7 @@ ghost use Rattle.session.specs.Opening.{bad_area, no_session, opened};
 use boards::board::Board;
 use boards::list;
 use commands::limits::MAX_AREA;
-use commands::outcome;
+use commands::outcome::Outcome;
 use transfer::state::Transfer;
 
 #[derive(Clone, Copy)]
@@ -19,39 +19,40 @@ pub struct Session {
 }
 
 // What opening gives. A refused opening hands back the all-zero session, which no call accepts.
+// No `Result`: `SessionOpens.refused` names the session that comes with a refusal.
 #[derive(Clone, Copy)]
 pub struct Opening {
-    pub outcome: u8,
+    pub outcome: Outcome,
     pub session: Session,
 }
 
 impl Session {
+    #[tactic(auto, unfolding(crate::specs::Opening::opened, crate::specs::Opening::fresh_session))]
     pub fn open(boards: [Board; list::MAX_BOARDS], count: usize, area: usize) -> Opening
         ensures { result ≡ opened boards count area }
     {
         if list::bad_list(boards, count) {
             return Opening {
-                outcome: outcome::BAD_LIST,
+                outcome: Outcome::BadList,
                 session: Session::none(),
             };
         }
         if bad_area(area) {
             return Opening {
-                outcome: outcome::BAD_AREA,
+                outcome: Outcome::BadArea,
                 session: Session::none(),
             };
         }
-        let used = list::list_of(boards, count);
-        let transfer = Transfer::none();
-        let session = Session {
-            boards: used,
-            count,
-            opened: area,
-            transfer,
-        };
+        // The borrow checker takes an array into a literal only by a name.
+        let boards = list::list_of(boards, count);
         Opening {
-            outcome: outcome::ACCEPTED,
-            session,
+            outcome: Outcome::Accepted,
+            session: Session {
+                boards,
+                count,
+                opened: area,
+                transfer: Transfer::none(),
+            },
         }
     }
 
@@ -59,34 +60,23 @@ impl Session {
     pub fn none() -> Session
         ensures { result ≡ no_session }
     {
-        let board = list::no_board();
-        let transfer = Transfer::none();
         Session {
-            boards: [board; list::MAX_BOARDS],
+            boards: [list::no_board(); list::MAX_BOARDS],
             count: 0,
             opened: 0,
-            transfer,
+            transfer: Transfer::none(),
         }
     }
 
     pub(crate) fn with_transfer(self, transfer: Transfer) -> Session
         ensures { result ≡ record { boards = self.boards; count = self.count; opened = self.opened; transfer = transfer } }
     {
-        let boards = self.boards;
-        Session {
-            boards,
-            count: self.count,
-            opened: self.opened,
-            transfer,
-        }
+        Session { transfer, ..self }
     }
 }
 
 pub(crate) fn bad_area(length: usize) -> bool
     ensures { result ≡ bad_area length }
 {
-    if length < 1 {
-        return true;
-    }
-    MAX_AREA < length
+    length < 1 || MAX_AREA < length
 }

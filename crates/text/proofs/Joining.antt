@@ -40,41 +40,41 @@ written_on all x y at h =
 
 -- ---- where a text fits
 
-module _ (o : Output) (t buffer : List ℕ) (fits : o.waiting + length t ≤ buffer_size) where
+module _ (o : Output) (t : List ℕ) (fits : o.waiting + length t ≤ buffer_size) where
   fits-here : waiting_with o (length t) ≡ o.waiting + length t
   fits-here = let short : length t ≤ buffer_size = omega arith in
       simp (le-ltb buffer_size (length t) short, le-ltb buffer_size (o.waiting + length t) fits)
 
-  stands_here : buffer_with o t buffer ≡ written_at buffer o.waiting t
+  stands_here : buffer_with o t ≡ written_at o.buffer o.waiting t
   stands_here = let short : length t ≤ buffer_size = omega arith in
       simp (le-ltb buffer_size (length t) short, le-ltb buffer_size (o.waiting + length t) fits)
 
 pub added_as_one : AddedAsOne
-added_as_one o r [] buffer after none size fits =
+added_as_one o r [] none size fits =
     record {
-      waits = sym (fits-here o [] buffer fits ∙ (let e : o.waiting + length {A = ℕ} [] ≡ o.waiting = omega arith in e));
-      stands = written_none buffer o.waiting (omega arith) ∙ sym (stands_here o [] buffer fits);
+      waits = sym (fits-here o [] fits ∙ (let e : o.waiting + length {A = ℕ} [] ≡ o.waiting = omega arith in e));
+      stands = written_none o.buffer o.waiting (omega arith) ∙ sym (stands_here o [] fits);
       fails = λ e. e;
       unwritten = λ _. refl;
     }
-added_as_one o r (t ∷ ts) buffer after (more {m = m} {between = between} a s) size fits =
+added_as_one o r (t ∷ ts) (more {m = m} a s) size fits =
     let u = as_one ts in
     let long : length (t ++ u) ≡ length t + length u = length-append t u in
     let one : o.waiting + length t ≤ buffer_size = omega arith in
-    let waits : m.waiting ≡ o.waiting + length t = a.waits ∙ fits-here o t buffer one in
-    let put : between ≡ written_at buffer o.waiting t = a.stands ∙ stands_here o t buffer one in
-    let kept : length between ≡ buffer_size = ap length put ∙ written-size buffer t o.waiting ∙ size in
+    let waits : m.waiting ≡ o.waiting + length t = a.waits ∙ fits-here o t one in
+    let put : m.buffer ≡ written_at o.buffer o.waiting t = a.stands ∙ stands_here o t one in
+    let kept : length m.buffer ≡ buffer_size = ap length put ∙ written-size o.buffer t o.waiting ∙ size in
     let behind : m.waiting + length u ≤ buffer_size = omega arith in
-    let rest : TextAdded m u between r after = added_as_one m r ts between after s kept behind in
+    let rest : TextAdded m u r = added_as_one m r ts s kept behind in
     record {
-      waits = rest.waits ∙ fits-here m u between behind
-          ∙ (let e : m.waiting + length u ≡ o.waiting + length (t ++ u) = omega arith in e) ∙ sym (fits-here o (t ++ u) buffer fits);
+      waits = rest.waits ∙ fits-here m u behind
+          ∙ (let e : m.waiting + length u ≡ o.waiting + length (t ++ u) = omega arith in e) ∙ sym (fits-here o (t ++ u) fits);
       stands =
           rest.stands
-          ∙ stands_here m u between behind
+          ∙ stands_here m u behind
           ∙ ap₂ (λ (b : List ℕ) (n : ℕ). written_at b n u) put waits
-          ∙ written_on buffer t u o.waiting (omega arith)
-          ∙ sym (stands_here o (t ++ u) buffer fits);
+          ∙ written_on o.buffer t u o.waiting (omega arith)
+          ∙ sym (stands_here o (t ++ u) fits);
       fails = λ e. rest.fails (a.fails e);
       unwritten = λ _. rest.unwritten behind ∙ a.unwritten one;
     }

@@ -17,14 +17,12 @@ pub fn bytes(s: &[u8], room: &mut [u8]) -> usize
     if room.len() / 2 < s.len() {
         return 0;
     }
-    let mut i = 0;
-    while i < s.len() {
-        let digits = byte(s[i]);
-        room[2 * i] = digits[0];
-        room[2 * i + 1] = digits[1];
-        i += 1;
+    for (i, b) in s.iter().enumerate() {
+        let [high, low] = byte(*b);
+        room[2 * i] = high;
+        room[2 * i + 1] = low;
     }
-    2 * i
+    2 * s.len()
 }
 
 fn digit(d: u8) -> u8

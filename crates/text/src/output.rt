@@ -9,12 +9,13 @@ use sequences::place;
 // Standard output's descriptor.
 const STDOUT: i32 = 1;
 
-// The length of the buffer: as `io::large_buffer` gives.
+// The length of the buffer.
 pub const SIZE: usize = 65536;
 
 // The first `waiting` bytes of the buffer are still to be written. Once a write has failed none is tried again.
-#[derive(Clone, Copy)]
+#[derive(Drop)]
 pub struct Output {
+    pub buffer: [u8; SIZE],
     pub waiting: usize,
     pub failed: bool,
 }
@@ -24,6 +25,7 @@ impl Output {
         ensures { result ≡ nothing }
     {
         Output {
+            buffer: [0; SIZE],
             waiting: 0,
             failed: false,
         }
@@ -31,54 +33,45 @@ impl Output {
 
     // Adds a text. Those that wait are written first where it does not fit behind them; one that is longer than the buffer is written
     // at once.
-    pub fn text(self, text: &[u8], buffer: &mut [u8; SIZE]) -> Output
-        ensures { TextAdded self text.now buffer.old result buffer.new }
+    pub fn text(&mut self, text: &[u8])
+        ensures { TextAdded self.old text.now self.new }
     {
         let n = text.len();
         if SIZE < n {
-            let flushed = self.flush(buffer);
-            return Output {
-                waiting: 0,
-                failed: write(flushed.failed, text),
-            };
+            self.flush();
+            self.failed = write(self.failed, text);
+            return;
         }
-        let output = self.with_room(n, buffer);
-        place::write(buffer, output.waiting, text);
-        Output {
-            waiting: output.waiting + n,
-            failed: output.failed,
-        }
+        self.make_room(n);
+        place::write(&mut self.buffer, self.waiting, text);
+        self.waiting += n;
     }
 
     // Adds a number in decimal.
-    pub fn decimal(self, n: u64, buffer: &mut [u8; SIZE]) -> Output
-        ensures { TextAdded self (decimal n) buffer.old result buffer.new }
+    pub fn decimal(&mut self, n: u64)
+        ensures { TextAdded self.old (decimal n) self.new }
     {
         let mut digits = [0u8; 20];
         let count = io::decimal(n, &mut digits);
-        self.text(&digits[..count], buffer)
+        self.text(&digits[..count]);
     }
 
     // Writes all that wait.
-    pub fn flush(self, buffer: &[u8; SIZE]) -> Output
-        ensures { Flushed self result }
+    pub fn flush(&mut self)
+        ensures { Flushed self.old self.new }
     {
-        let all: &[u8] = buffer;
-        Output {
-            waiting: 0,
-            failed: write(self.failed, front(all, self.waiting)),
-        }
+        self.failed = write(self.failed, front(&self.buffer, self.waiting));
+        self.waiting = 0;
     }
 
     // After this a text of n bytes fits behind those that wait.
-    fn with_room(self, n: usize, buffer: &[u8; SIZE]) -> Output
+    fn make_room(&mut self, n: usize)
         requires { n ≤ buffer_size }
-        ensures { RoomMade self n result }
+        ensures { RoomMade self.old n self.new }
     {
         if SIZE - n < self.waiting {
-            return self.flush(buffer);
+            self.flush();
         }
-        self
     }
 }
 
@@ -86,9 +79,5 @@ impl Output {
 fn write(is_failed: bool, text: &[u8]) -> bool
     ensures { is_failed ≡ true → result ≡ true }
 {
-    if is_failed {
-        return true;
-    }
-    let is_written = io::write_all(STDOUT, text);
-    !is_written
+    is_failed || !io::write_all(STDOUT, text)
 }

@@ -1,6 +1,8 @@
 -- Lines that can be read: docs/EXCHANGE.md. Assumes nothing.
-use Rattle.std.specs.Prelude.{◌≡◌, Bool, true, false, List, [], ◌∷◌, ℕ, length}
+use Rattle.std.specs.Prelude.{◌≡◌, true, List, [], ◌∷◌, ℕ, length}
 use Rattle.link.specs.declared.frame.Frame.{Frame}
+use Rattle.link.specs.declared.frame.Way.{Way}
+use Rattle.link.specs.declared.frame.Way.TheVariants.{ToController, ToSender}
 use Rattle.sender.specs.declared.decision.Decision.TheVariants.{GoOn, SendAgain}
 use Rattle.text.specs.Ascii.{ascii}
 use Rattle.text.specs.Outputs.{as_one}
@@ -9,15 +11,15 @@ use Rattle.transcript.specs.Words.{lost}
 use Rattle.transcript.specs.Lines.{gone_texts, at_controller_texts, at_sender_texts, silence_texts, stored_texts, sender_end_texts}
 use Rattle.transcript.specs.Lines.{controller_end_texts, area_end_texts}
 
-abbrev link_frame : Bool → List ℕ → Frame
-link_frame to_sender bytes = record { to_sender = to_sender; bytes = bytes; length = length bytes }
+abbrev link_frame : Way → List ℕ → Frame
+link_frame way bytes = record { way = way; bytes = bytes; length = length bytes }
 
 -- an FE, and the reply to an FD
 abbrev sent_fe : Frame
-sent_fe = link_frame false (0x55 ∷ 0xAA ∷ 0x00 ∷ 0xFE ∷ 0x00 ∷ 0x01 ∷ 0x0A ∷ 0x08 ∷ [])
+sent_fe = link_frame ToController (0x55 ∷ 0xAA ∷ 0x00 ∷ 0xFE ∷ 0x00 ∷ 0x01 ∷ 0x0A ∷ 0x08 ∷ [])
 
 abbrev packet_reply : Frame
-packet_reply = link_frame true (0x55 ∷ 0xAA ∷ 0x00 ∷ 0xFD ∷ 0x00 ∷ 0x02 ∷ 0x0A ∷ 0x00 ∷ 0x08 ∷ [])
+packet_reply = link_frame ToSender (0x55 ∷ 0xAA ∷ 0x00 ∷ 0xFD ∷ 0x00 ∷ 0x02 ∷ 0x0A ∷ 0x00 ∷ 0x08 ∷ [])
 
 pub record LineExamples : Type 0 where
   pub fed : as_one (at_controller_texts sent_fe 0) ≡ ascii "-> FE 55AA00FE00010A08 controller 0\n"

@@ -8,13 +8,13 @@ use Rattle.text.specs.Ascii.{ascii}
 use Rattle.text.specs.Decimals.{decimal}
 use Rattle.text.specs.Hex.{hex_byte, hex_bytes}
 use Rattle.transfer.specs.declared.phase.Phase.{Phase}
-use Rattle.transcript.specs.Words.{way, decision_word, phase_word, as_in_image, sender_end, area_end}
+use Rattle.transcript.specs.Words.{arrow, decision_word, phase_word, as_in_image, sender_end, area_end}
 
 -- a copy of a frame: "`->` is to the controller, `<-` to the sender; then the command in hex", then HEX. So `-> FA HEX `
 abbrev pub copy_texts : Frame → List (List ℕ)
 copy_texts f =
     let bytes = take f.length f.bytes in
-    way f.to_sender ∷ hex_byte (command_at bytes) ∷ ascii " " ∷ hex_bytes bytes ∷ ascii " " ∷ []
+    arrow f.way ∷ hex_byte (command_at bytes) ∷ ascii " " ∷ hex_bytes bytes ∷ ascii " " ∷ []
 
 -- `-> FA HEX lost`, `dropped` or `left`: it does not arrive
 abbrev pub gone_texts : Frame → List ℕ → List (List ℕ)

@@ -1,5 +1,7 @@
 -- The words of the lines. Assumes nothing.
 use Rattle.std.specs.Prelude.{Bool, true, false, List, ℕ}
+use Rattle.link.specs.declared.frame.Way.{Way}
+use Rattle.link.specs.declared.frame.Way.TheVariants.{ToController, ToSender}
 use Rattle.sender.specs.declared.decision.Decision.{Decision}
 use Rattle.sender.specs.declared.decision.Decision.TheVariants.{Nothing, GoOn, SendAgain, NewLeg, Done, GivenUp}
 use Rattle.text.specs.Ascii.{ascii}
@@ -7,9 +9,9 @@ use Rattle.transfer.specs.declared.phase.Phase.{Phase}
 use Rattle.transfer.specs.declared.phase.Phase.TheVariants.{Idle, Asked, Told, Receiving}
 
 -- "`->` is to the controller, `<-` to the sender"
-abbrev pub way : Bool → List ℕ
-way false = ascii "-> "
-way true = ascii "<- "
+abbrev pub arrow : Way → List ℕ
+arrow ToController = ascii "-> "
+arrow ToSender = ascii "<- "
 
 -- "the script lost it (l), or all places were taken"; "it was under way when a new leg began"; "it was under way when the turns ended"
 abbrev pub lost : List ℕ

@@ -1,185 +1,199 @@
 #![tactic(auto)]
 
 // The lines about an exchange, as docs/EXCHANGE.md has them: one for each copy of a frame, each silence and each change of what is stored,
-// and three at the end. Each is put behind those that wait for standard output, in the buffer that the caller lends.
+// and three at the end. Each is put behind those that wait for standard output.
 //
 // - `gone`, `at_controller`, `at_sender`: a copy of a frame does not arrive, arrives at the controller, at the sender.
 // - `silence`, `stored`: silence was told; the stored length has changed.
 // - `sender_end`, `controller_end`, `area_end`: the last three.
-ghost use Rattle.std.specs.Prelude.{◌≤◌, length};
+//
+// An outcome comes as its number: a line tells any, and none is refused here.
+ghost use Rattle.std.specs.Prelude.{◌≡◌, ◌≤◌, length};
 ghost use Rattle.fronts.specs.Frame.{max_frame};
 ghost use Rattle.text.specs.Hex.{hex_bytes};
 ghost use Rattle.text.specs.Outputs.{TextAdded, TextsAdded};
-ghost use Rattle.transcript.specs.Words.{way, decision_word, phase_word};
+ghost use Rattle.transcript.specs.Words.{arrow, as_in_image, decision_word, phase_word, sender_end, area_end};
 ghost use Rattle.transcript.specs.Lines.{copy_texts, gone_texts, at_controller_texts, heard_texts, at_sender_texts, silence_texts};
 ghost use Rattle.transcript.specs.Lines.{stored_of_texts, stored_texts, sender_end_texts, controller_end_texts, area_end_texts};
 
 use frames::buffer;
 use fronts::MAX_FRAME;
-use link::frame::Frame;
+use link::frame::{Frame, Way};
 use sender::decision::Decision;
 use sequences::part::front;
 use text::hex;
-use text::output::{Output, SIZE};
+use text::output::Output;
 use transfer::phase::Phase;
 
 // A longest frame in hexadecimal.
 const DIGITS: usize = 2 * MAX_FRAME;
 
 // A copy of a frame that does not arrive: lost, dropped or left.
-pub fn gone(output: Output, frame: Frame, fate: &[u8], out: &mut [u8; SIZE]) -> Output
-    ensures { TextsAdded output (gone_texts frame fate.now) out.old result out.new }
+pub fn gone(output: &mut Output, frame: Frame, fate: &[u8])
+    ensures { TextsAdded output.old (gone_texts frame fate.now) output.new }
 {
-    copy(output, frame, &mut *out)
-        .text(fate, &mut *out)
-        .text(b"\n", out)
+    copy(output, frame);
+    output.text(fate);
+    output.text(b"\n");
 }
 
 // A copy that arrives at the controller.
-pub fn at_controller(output: Output, frame: Frame, outcome: u8, out: &mut [u8; SIZE]) -> Output
-    ensures { TextsAdded output (at_controller_texts frame outcome) out.old result out.new }
+pub fn at_controller(output: &mut Output, frame: Frame, outcome: u8)
+    ensures { TextsAdded output.old (at_controller_texts frame outcome) output.new }
 {
-    copy(output, frame, &mut *out)
-        .text(b"controller ", &mut *out)
-        .decimal(outcome as u64, &mut *out)
-        .text(b"\n", out)
+    copy(output, frame);
+    output.text(b"controller ");
+    output.decimal(outcome as u64);
+    output.text(b"\n");
 }
 
 // One that arrives at the sender.
-pub fn at_sender(
-    output: Output,
-    frame: Frame,
-    outcome: u8,
-    decision: Decision,
-    out: &mut [u8; SIZE],
-) -> Output
-    ensures { TextsAdded output (at_sender_texts frame outcome decision) out.old result out.new }
+pub fn at_sender(output: &mut Output, frame: Frame, outcome: u8, decision: Decision)
+    ensures { TextsAdded output.old (at_sender_texts frame outcome decision) output.new }
 {
-    heard(copy(output, frame, &mut *out), outcome, decision, out)
+    copy(output, frame);
+    heard(output, outcome, decision);
 }
 
-pub fn silence(output: Output, outcome: u8, decision: Decision, out: &mut [u8; SIZE]) -> Output
-    ensures { TextsAdded output (silence_texts outcome decision) out.old result out.new }
+pub fn silence(output: &mut Output, outcome: u8, decision: Decision)
+    ensures { TextsAdded output.old (silence_texts outcome decision) output.new }
 {
-    heard(output.text(b"silence ", &mut *out), outcome, decision, out)
+    output.text(b"silence ");
+    heard(output, outcome, decision);
 }
 
 // What the controller has stored of an image of m bytes.
-pub fn stored(output: Output, n: usize, m: usize, is_same: bool, out: &mut [u8; SIZE]) -> Output
-    ensures { TextsAdded output (stored_texts n m is_same) out.old result out.new }
+pub fn stored(output: &mut Output, n: usize, m: usize, is_same: bool)
+    ensures { TextsAdded output.old (stored_texts n m is_same) output.new }
 {
-    let told = stored_of(output, n, m, &mut *out);
-    if is_same {
-        return told.text(b", as in the image\n", out);
-    }
-    told.text(b", NOT as in the image\n", out)
+    stored_of(output, n, m);
+    output.text(as_in_image(is_same));
 }
 
-pub fn sender_end(output: Output, is_done: bool, out: &mut [u8; SIZE]) -> Output
-    ensures { TextsAdded output (sender_end_texts is_done) out.old result out.new }
+pub fn sender_end(output: &mut Output, is_done: bool)
+    ensures { TextsAdded output.old (sender_end_texts is_done) output.new }
 {
-    if is_done {
-        return output.text(b"sender done\n", out);
-    }
-    output.text(b"sender given up\n", out)
+    output.text(sender_word(is_done));
 }
 
-pub fn controller_end(
-    output: Output,
-    phase: Phase,
-    n: usize,
-    m: usize,
-    out: &mut [u8; SIZE],
-) -> Output
-    ensures { TextsAdded output (controller_end_texts phase n m) out.old result out.new }
+pub fn controller_end(output: &mut Output, phase: Phase, n: usize, m: usize)
+    ensures { TextsAdded output.old (controller_end_texts phase n m) output.new }
 {
-    let told = in_phase(output.text(b"controller ", &mut *out), phase, &mut *out);
-    stored_of(told.text(b", ", &mut *out), n, m, &mut *out).text(b"\n", out)
+    output.text(b"controller ");
+    output.text(phase_word(phase));
+    output.text(b", ");
+    stored_of(output, n, m);
+    output.text(b"\n");
 }
 
-pub fn area_end(output: Output, is_same: bool, out: &mut [u8; SIZE]) -> Output
-    ensures { TextsAdded output (area_end_texts is_same) out.old result out.new }
+pub fn area_end(output: &mut Output, is_same: bool)
+    ensures { TextsAdded output.old (area_end_texts is_same) output.new }
 {
-    if is_same {
-        return output.text(b"area equals the image\n", out);
-    }
-    output.text(b"area differs from the image\n", out)
+    output.text(area_word(is_same));
 }
 
 // Way, command and bytes of a copy, each with a space behind it.
-fn copy(output: Output, frame: Frame, out: &mut [u8; SIZE]) -> Output
-    ensures { TextsAdded output (copy_texts frame) out.old result out.new }
+fn copy(output: &mut Output, frame: Frame)
+    ensures { TextsAdded output.old (copy_texts frame) output.new }
 {
-    let bytes = frame.bytes;
-    let all = front(&bytes, frame.length);
-    let command = hex::byte(buffer::command(all));
-    let told = way(output, frame.to_sender, &mut *out)
-        .text(&command, &mut *out)
-        .text(b" ", &mut *out);
-    digits(told, all, &mut *out).text(b" ", out)
+    let bytes = front(&frame.bytes, frame.length);
+    let command = hex::byte(buffer::command(bytes));
+    output.text(arrow(frame.way));
+    output.text(&command);
+    output.text(b" ");
+    digits(output, bytes);
+    output.text(b" ");
 }
 
 // The bytes of a frame, of which none has more, in hexadecimal.
-fn digits(output: Output, bytes: &[u8], out: &mut [u8; SIZE]) -> Output
+fn digits(output: &mut Output, bytes: &[u8])
     requires { length bytes.now ≤ max_frame }
-    ensures { TextAdded output (hex_bytes bytes.now) out.old result out.new }
+    ensures { TextAdded output.old (hex_bytes bytes.now) output.new }
 {
     let mut digits = [0u8; DIGITS];
     let n = hex::bytes(bytes, &mut digits);
-    output.text(front(&digits, n), out)
+    output.text(front(&digits, n));
 }
 
-fn way(output: Output, to_sender: bool, out: &mut [u8; SIZE]) -> Output
-    ensures { TextAdded output (way to_sender) out.old result out.new }
+fn arrow(way: Way) -> &'static [u8]
+    ensures { result.now ≡ arrow way }
 {
-    if to_sender {
-        return output.text(b"<- ", out);
+    match way {
+        Way::ToController => b"-> ",
+        Way::ToSender => b"<- ",
     }
-    output.text(b"-> ", out)
+}
+
+fn as_in_image(is_same: bool) -> &'static [u8]
+    ensures { result.now ≡ as_in_image is_same }
+{
+    if is_same {
+        b", as in the image\n"
+    } else {
+        b", NOT as in the image\n"
+    }
+}
+
+fn sender_word(is_done: bool) -> &'static [u8]
+    ensures { result.now ≡ sender_end is_done }
+{
+    if is_done {
+        b"sender done\n"
+    } else {
+        b"sender given up\n"
+    }
+}
+
+fn area_word(is_same: bool) -> &'static [u8]
+    ensures { result.now ≡ area_end is_same }
+{
+    if is_same {
+        b"area equals the image\n"
+    } else {
+        b"area differs from the image\n"
+    }
 }
 
 // What the sender makes of a reply or a silence.
-fn heard(output: Output, outcome: u8, decision: Decision, out: &mut [u8; SIZE]) -> Output
-    ensures { TextsAdded output (heard_texts outcome decision) out.old result out.new }
+fn heard(output: &mut Output, outcome: u8, decision: Decision)
+    ensures { TextsAdded output.old (heard_texts outcome decision) output.new }
 {
-    let told = output
-        .text(b"sender ", &mut *out)
-        .decimal(outcome as u64, &mut *out);
-    to_do(told, decision, out)
+    output.text(b"sender ");
+    output.decimal(outcome as u64);
+    output.text(decision_word(decision));
 }
 
 // The decision, the last word of its line.
-fn to_do(output: Output, decision: Decision, out: &mut [u8; SIZE]) -> Output
-    ensures { TextAdded output (decision_word decision) out.old result out.new }
+fn decision_word(decision: Decision) -> &'static [u8]
+    ensures { result.now ≡ decision_word decision }
 {
     match decision {
-        Decision::Nothing => output.text(b" none\n", out),
-        Decision::GoOn => output.text(b" go on\n", out),
-        Decision::SendAgain => output.text(b" send again\n", out),
-        Decision::NewLeg => output.text(b" new leg\n", out),
-        Decision::Done => output.text(b" done\n", out),
-        Decision::GivenUp => output.text(b" given up\n", out),
+        Decision::Nothing => b" none\n",
+        Decision::GoOn => b" go on\n",
+        Decision::SendAgain => b" send again\n",
+        Decision::NewLeg => b" new leg\n",
+        Decision::Done => b" done\n",
+        Decision::GivenUp => b" given up\n",
     }
 }
 
-fn stored_of(output: Output, n: usize, m: usize, out: &mut [u8; SIZE]) -> Output
-    ensures { TextsAdded output (stored_of_texts n m) out.old result out.new }
+fn stored_of(output: &mut Output, n: usize, m: usize)
+    ensures { TextsAdded output.old (stored_of_texts n m) output.new }
 {
-    output
-        .text(b"stored ", &mut *out)
-        .decimal(n as u64, &mut *out)
-        .text(b" of ", &mut *out)
-        .decimal(m as u64, out)
+    output.text(b"stored ");
+    output.decimal(n as u64);
+    output.text(b" of ");
+    output.decimal(m as u64);
 }
 
-fn in_phase(output: Output, phase: Phase, out: &mut [u8; SIZE]) -> Output
-    ensures { TextAdded output (phase_word phase) out.old result out.new }
+fn phase_word(phase: Phase) -> &'static [u8]
+    ensures { result.now ≡ phase_word phase }
 {
     match phase {
-        Phase::Idle => output.text(b"idle", out),
-        Phase::Asked => output.text(b"asked", out),
-        Phase::Told => output.text(b"told", out),
-        Phase::Receiving => output.text(b"receiving", out),
-        Phase::Done => output.text(b"done", out),
+        Phase::Idle => b"idle",
+        Phase::Asked => b"asked",
+        Phase::Told => b"told",
+        Phase::Receiving => b"receiving",
+        Phase::Done => b"done",
     }
 }

@@ -11,7 +11,7 @@ use image::progress::Progress;
 use replies::reply;
 
 // What a transfer has agreed on, and how far its frames have come.
-#[derive(Clone, Copy)]
+#[derive(Clone, Copy, PartialEq, Eq)]
 pub struct Leg {
     pub phase: Phase,
     // The session's channel.
@@ -55,24 +55,22 @@ impl Step {
     pub fn noted(transfer: Transfer) -> Step
         ensures { result ≡ noted transfer }
     {
-        let reply = reply::none();
         Step {
             answered: true,
             replies: false,
             transfer,
-            reply,
+            reply: reply::none(),
         }
     }
 
     pub fn unanswered(transfer: Transfer) -> Step
         ensures { result ≡ unanswered transfer }
     {
-        let reply = reply::none();
         Step {
             answered: false,
             replies: false,
             transfer,
-            reply,
+            reply: reply::none(),
         }
     }
 }
@@ -92,12 +90,7 @@ impl Leg {
     pub fn in_phase(self, phase: Phase) -> Leg
         ensures { result ≡ in_phase self phase }
     {
-        Leg {
-            phase,
-            channel: self.channel,
-            agreed: self.agreed,
-            next: self.next,
-        }
+        Leg { phase, ..self }
     }
 }
 
@@ -116,50 +109,31 @@ impl Transfer {
     pub fn with_leg(self, leg: Leg) -> Transfer
         ensures { result ≡ with_leg self leg }
     {
-        let progress = self.progress;
-        let image = self.image;
-        let check = self.check;
-        Transfer {
-            leg,
-            progress,
-            image,
-            check,
-        }
+        Transfer { leg, ..self }
     }
 
     pub fn with_phase(self, phase: Phase) -> Transfer
         ensures { result ≡ with_phase self phase }
     {
-        let leg = self.leg;
-        self.with_leg(leg.in_phase(phase))
+        self.with_leg(self.leg.in_phase(phase))
     }
 
     // Another image (FB), or none any more (a failed end check): nothing of it is stored.
     pub fn replaced(self, phase: Phase, image: Identity) -> Transfer
         ensures { result ≡ replaced self phase image }
     {
-        let leg = self.leg;
-        let check = self.check;
         Transfer {
-            leg: leg.in_phase(phase),
+            leg: self.leg.in_phase(phase),
             progress: Progress::from(0),
             image,
-            check,
+            ..self
         }
     }
 
     pub fn with_check(self, check: Check) -> Transfer
         ensures { result ≡ with_check self check }
     {
-        let leg = self.leg;
-        let progress = self.progress;
-        let image = self.image;
-        Transfer {
-            leg,
-            progress,
-            image,
-            check,
-        }
+        Transfer { check, ..self }
     }
 
     pub fn other_channel(self, channel: u8) -> bool

@@ -1,5 +1,5 @@
 -- docs/CONSOLE.md: the words of the lines. Assumes nothing.
-use Rattle.std.specs.Prelude.{List, ℕ, take}
+use Rattle.std.specs.Prelude.{List, ℕ}
 use Rattle.image.specs.declared.check.Verdict.{Verdict}
 use Rattle.image.specs.declared.check.Verdict.TheVariants.{Unfinished, Right, Wrong}
 use Rattle.sender.specs.declared.decision.Decision.{Decision}
@@ -9,7 +9,6 @@ use Rattle.sender.specs.declared.phase.Phase.TheVariants.{Asking, Telling, Placi
 use Rattle.text.specs.Ascii.{ascii}
 use Rattle.transfer.specs.declared.phase.Phase.{Phase}
 use Rattle.transfer.specs.declared.phase.Phase.TheVariants.{Idle, Asked, Told, Receiving}
-use Rattle.values.specs.declared.word.Word.{Word}
 
 -- "V is `unfinished`, `right` or `wrong`"
 abbrev pub verdict_word : Verdict → List ℕ
@@ -43,7 +42,3 @@ sender_phase_name Sending = ascii "sending"
 sender_phase_name Ending = ascii "ending"
 sender_phase_name sender-phase.Phase.Done = ascii "done"
 sender_phase_name sender-phase.Phase.GivenUp = ascii "given-up"
-
--- what a word by value says: so many of its letters
-abbrev pub said : Word → List ℕ
-said w = take w.1 w.0

@@ -4,40 +4,29 @@ ghost use Rattle.text.specs.Outputs.{TextAdded, TextsAdded};
 ghost use Rattle.values.specs.Bytes.{digit_texts, bytes_texts};
 
 use text::hex;
-use text::output::{Output, SIZE};
+use text::output::Output;
 
-pub fn digits(output: Output, bytes: &[u8], out: &mut [u8; SIZE]) -> Output
-    ensures { TextsAdded output (digit_texts bytes.now) out.old result out.new }
+pub fn digits(output: &mut Output, bytes: &[u8])
+    ensures { TextsAdded output.old (digit_texts bytes.now) output.new }
 {
-    let mut told = output;
-    let mut i = 0;
-    while i < bytes.len() {
-        told = byte(told, bytes[i], &mut *out);
-        i += 1;
+    for b in bytes {
+        byte(output, *b);
     }
-    told
 }
 
 // BYTES.
-pub fn written(output: Output, bytes: &[u8], out: &mut [u8; SIZE]) -> Output
-    ensures { TextsAdded output (bytes_texts bytes.now) out.old result out.new }
+pub fn written(output: &mut Output, bytes: &[u8])
+    ensures { TextsAdded output.old (bytes_texts bytes.now) output.new }
 {
-    if bytes.len() == 0 {
-        return output.text(b"-", out);
+    if bytes.is_empty() {
+        output.text(b"-");
+    } else {
+        digits(output, bytes);
     }
-    digits(output, bytes, out)
 }
 
-pub fn byte(output: Output, b: u8, out: &mut [u8; SIZE]) -> Output
-    ensures { TextAdded output (hex_byte b) out.old result out.new }
+pub fn byte(output: &mut Output, b: u8)
+    ensures { TextAdded output.old (hex_byte b) output.new }
 {
-    let digits = hex::byte(b);
-    output.text(&digits, out)
-}
-
-// Eight bytes by value: the caller need not lend them.
-pub fn digits8(output: Output, bytes: [u8; 8], out: &mut [u8; SIZE]) -> Output
-    ensures { TextsAdded output (digit_texts bytes) out.old result out.new }
-{
-    digits(output, &bytes, out)
+    output.text(&hex::byte(b));
 }

@@ -1,7 +1,7 @@
 #![tactic(auto)]
 
-// Values as the program `console` tells them (docs/CONSOLE.md, "Output"), and one field of a record with its value. Each function puts its
-// texts behind those that wait for standard output, in the buffer that the caller lends, and hands the output back.
+// Values as the program `console` tells them (docs/CONSOLE.md, "Output"), and one field of a record with its value. What is told is put
+// behind the texts that wait for standard output.
 //
 // - `hexes`: bytes in hexadecimal, of any number; BYTES.
 // - `span`: SPAN, the changed bytes of a memory from the first to the last.

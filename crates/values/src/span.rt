@@ -4,31 +4,24 @@ ghost use Rattle.text.specs.Outputs.{TextsAdded};
 ghost use Rattle.values.specs.Spans.{changed_at, first_changed, behind_last, span_texts};
 
 use crate::hexes::digits;
-use sequences::bounds::smaller;
+use sequences::bounds::{larger, smaller};
 use sequences::part::between;
-use text::output::{Output, SIZE};
+use text::output::Output;
 
 // Looks at the places from `from` on that both have.
-pub fn span(
-    output: Output,
-    before: &[u8],
-    after: &[u8],
-    from: usize,
-    out: &mut [u8; SIZE],
-) -> Output
-    ensures { TextsAdded output (span_texts before.now after.now from) out.old
-        result out.new }
+pub fn span(output: &mut Output, before: &[u8], after: &[u8], from: usize)
+    ensures { TextsAdded output.old (span_texts before.now after.now from) output.new }
 {
     let end = smaller(before.len(), after.len());
     let first = first_changed(before, after, from, end);
     if first < end {
-        let told = output
-            .decimal(first as u64, &mut *out)
-            .text(b":", &mut *out);
         let to = behind_last(before, after, end);
-        return digits(told, between(after, first, to), out);
+        output.decimal(first as u64);
+        output.text(b":");
+        digits(output, between(after, first, to));
+    } else {
+        output.text(b"-");
     }
-    output.text(b"-", out)
 }
 
 // The first place from `from` on whose byte has changed; else `end`, or `from` where that is no smaller.
@@ -36,14 +29,12 @@ fn first_changed(before: &[u8], after: &[u8], from: usize, end: usize) -> usize
     requires { (end ≤ length before.now) × (end ≤ length after.now) }
     ensures { result ≡ first_changed before.now after.now from end }
 {
-    let mut i = from;
-    while i < end {
+    for i in from..end {
         if before[i] != after[i] {
             return i;
         }
-        i += 1;
     }
-    i
+    larger(from, end)
 }
 
 // The place behind the last one before `end` whose byte has changed; 0 where none has.
@@ -51,13 +42,10 @@ fn behind_last(before: &[u8], after: &[u8], end: usize) -> usize
     requires { (end ≤ length before.now) × (end ≤ length after.now) }
     ensures { result ≡ behind_last (changed_at before.now after.now) end }
 {
-    let mut n = end;
-    while 0 < n {
-        let last = n - 1;
+    for last in (0..end).rev() {
         if before[last] != after[last] {
-            return n;
+            return last + 1;
         }
-        n = last;
     }
     0
 }

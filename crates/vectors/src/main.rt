@@ -2,7 +2,6 @@
 
 // Runs the compiled checksums, frame writer and frame reader on vectors and prints what they give. The stored output was made by
 // tests/vectors.py, which uses other implementations of the checksums; the gate compares the two.
-ghost use Rattle.std.specs.Prelude.{◌≤◌};
 ghost use Rattle.io.specs.Counts.{IsPrefixLen};
 
 use frames::{buffer, writer};
@@ -36,20 +35,16 @@ fn all_frames(m: &[u8]) {
 // Bytes without a simple pattern modulo 16.
 fn message() -> [u8; 3100] {
     let mut m = [0u8; 3100];
-    let mut i = 0;
-    while i < 3100 {
+    for i in 0..3100 {
         m[i] = (i * 7 % 251) as u8;
-        i += 1;
     }
     m
 }
 
 // Each length from `from` to below `to`.
 fn lengths(from: usize, to: usize, m: &[u8]) {
-    let mut n = from;
-    while n < to {
+    for n in from..to {
         checksums(n, m);
-        n += 1;
     }
 }
 
@@ -113,12 +108,5 @@ fn word(x: u64, width: usize) {
 fn fit(n: usize, s: &[u8]) -> usize
     ensures { IsPrefixLen result s.now }
 {
-    least(n, s.len())
-}
-
-fn least(a: usize, b: usize) -> usize
-    ensures upper_bound { result ≤ a }
-    ensures upper_bound_2 { result ≤ b }
-{
-    if a < b { a } else { b }
+    n.min(s.len())
 }

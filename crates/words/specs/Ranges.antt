@@ -4,12 +4,12 @@ use Rattle.std.specs.Prelude.{ℕ, ◌≤◌, List}
 use Rattle.commands.specs.Limits.{min_packet}
 use Rattle.boards.specs.Boards.{first_channel, last_channel}
 use Rattle.words.specs.declared.words.Words.{Words}
-use Rattle.words.specs.Sayings.{no_words, not_taken, word_said}
+use Rattle.words.specs.Sayings.{board_channel, packet_size, no_words, not_taken, word_said}
 
 pub record InRange (w : Words) : Type 0 where
-  pub first-channel : first_channel ≤ w.channel
-  pub last-channel : w.channel ≤ last_channel
-  pub least_size : min_packet ≤ w.size
+  pub first-channel : first_channel ≤ board_channel w
+  pub last-channel : board_channel w ≤ last_channel
+  pub least_size : min_packet ≤ packet_size w
 
 -- the claim: it is so without a word, and stays so with every word, taken or not
 pub record StayInRange : Type 0 where

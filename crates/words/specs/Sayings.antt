@@ -1,18 +1,25 @@
 -- docs/EXCHANGE.md, the words: "Words in any order, each name at most once. Decimal numbers, digits only (1 to 5 of them ..)." What is told
 -- of "A word that is not taken" is no part of this. Assumes nothing.
-use Rattle.std.specs.Prelude.{true, false, cond, List, ℕ, ltb, eqb, length, drop}
+use Rattle.std.specs.Prelude.{true, false, cond, ◌||◌, List, ℕ, Option, None, Some, is_some, unwrap_or, ltb, length, drop}
 use Rattle.sequences.specs.Comparing.{begins_with}
 use Rattle.commands.specs.Limits.{min_packet}
 use Rattle.boards.specs.Boards.{first_channel, last_channel}
 use Rattle.text.specs.Ascii.{ascii}
-use Rattle.text.specs.Numbers.{no_number, number_said}
+use Rattle.text.specs.Numbers.{number_said}
 use Rattle.link.specs.Scripts.{all_letters}
 use Rattle.words.specs.declared.words.Words.{Words}
 
--- the column "without it": the image is a text, channel 10, size 16, the script is empty
+-- the column "without it": the image is a text, and the script is empty
 abbrev pub no_words : Words
 no_words =
-    record { image = 0; link = 0; channel = first_channel; size = min_packet; has_channel = false; has_size = false; is_bad = false }
+    record { image = None; link = None; channel = None; size = None; is_bad = false }
+
+-- and so without a word the board's channel is 10, and the packets' size 16
+abbrev pub board_channel : Words → ℕ
+board_channel w = unwrap_or w.channel first_channel
+
+abbrev pub packet_size : Words → ℕ
+packet_size w = unwrap_or w.size min_packet
 
 abbrev pub image_name : List ℕ
 image_name = ascii "image="
@@ -34,11 +41,13 @@ behind_name name word = drop (length name) word
 abbrev pub most_size : ℕ
 most_size = 65535
 
+abbrev pub in_limits : ℕ → ℕ → Option ℕ → Option ℕ
+in_limits least most None = None
+in_limits least most (Some n) = cond (ltb n least || ltb most n) None (Some n)
+
 -- the number that these digits say, if it is from `least` to `most`
-abbrev pub number_between : ℕ → ℕ → List ℕ → ℕ
-number_between least most digits =
-    let n = number_said digits in
-    cond (ltb n least) no_number (cond (ltb most n) no_number n)
+abbrev pub number_between : ℕ → ℕ → List ℕ → Option ℕ
+number_between least most digits = in_limits least most (number_said digits)
 
 module _ (w : Words) where
   -- "A word that is not taken": what the others said stays
@@ -49,8 +58,6 @@ module _ (w : Words) where
         link = w.link;
         channel = w.channel;
         size = w.size;
-        has_channel = w.has_channel;
-        has_size = w.has_size;
         is_bad = true;
       }
 
@@ -58,17 +65,15 @@ module _ (w : Words) where
   abbrev pub image_said : ℕ → Words
   image_said i =
       record {
-        image = i;
+        image = Some i;
         link = w.link;
         channel = w.channel;
         size = w.size;
-        has_channel = w.has_channel;
-        has_size = w.has_size;
         is_bad = w.is_bad;
       }
 
   abbrev pub with_image : ℕ → Words
-  with_image i = cond (eqb w.image 0) (image_said i) not_taken
+  with_image i = cond (is_some w.image) not_taken (image_said i)
 
   -- channel, 10 to 19
   abbrev pub channel_said : ℕ → Words
@@ -76,15 +81,17 @@ module _ (w : Words) where
       record {
         image = w.image;
         link = w.link;
-        channel = n;
+        channel = Some n;
         size = w.size;
-        has_channel = true;
-        has_size = w.has_size;
         is_bad = w.is_bad;
       }
 
-  abbrev pub with_channel : ℕ → Words
-  with_channel n = cond w.has_channel not_taken (cond (eqb n no_number) not_taken (channel_said n))
+  abbrev pub channel_if : Option ℕ → Words
+  channel_if None = not_taken
+  channel_if (Some n) = channel_said n
+
+  abbrev pub with_channel : Option ℕ → Words
+  with_channel n = cond (is_some w.channel) not_taken (channel_if n)
 
   -- size, the sender's packet size, 16 to 65,535
   abbrev pub size_said : ℕ → Words
@@ -93,30 +100,30 @@ module _ (w : Words) where
         image = w.image;
         link = w.link;
         channel = w.channel;
-        size = n;
-        has_channel = w.has_channel;
-        has_size = true;
+        size = Some n;
         is_bad = w.is_bad;
       }
 
-  abbrev pub with_size : ℕ → Words
-  with_size n = cond w.has_size not_taken (cond (eqb n no_number) not_taken (size_said n))
+  abbrev pub size_if : Option ℕ → Words
+  size_if None = not_taken
+  size_if (Some n) = size_said n
+
+  abbrev pub with_size : Option ℕ → Words
+  with_size n = cond (is_some w.size) not_taken (size_if n)
 
   -- link, letters p, l, r, s, perhaps none; the word's place is kept
   abbrev pub link_said : ℕ → Words
   link_said i =
       record {
         image = w.image;
-        link = i;
+        link = Some i;
         channel = w.channel;
         size = w.size;
-        has_channel = w.has_channel;
-        has_size = w.has_size;
         is_bad = w.is_bad;
       }
 
   abbrev pub with_link : ℕ → List ℕ → Words
-  with_link i letters = cond (eqb w.link 0) (cond (all_letters letters) (link_said i) not_taken) not_taken
+  with_link i letters = cond (is_some w.link) not_taken (cond (all_letters letters) (link_said i) not_taken)
 
   -- what the words say with the one at place i of the arguments
   unfoldable pub word_said : ℕ → List ℕ → Words

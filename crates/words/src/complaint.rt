@@ -1,8 +1,7 @@
 // Lines on standard error. Where that fails too there is nobody to tell.
 ghost use Rattle.io.specs.Counts.{IsPrefixLen};
 
-// Standard error's descriptor.
-const STDERR: i32 = 2;
+use text::complaint::say;
 
 // As much of a word as is shown.
 pub const SHOWN: usize = 200;
@@ -11,10 +10,6 @@ pub const SHOWN: usize = 200;
 pub fn complain(expected: &[u8], word: &[u8]) {
     name(expected, word);
     say(b"\n");
-}
-
-pub fn say(text: &[u8]) {
-    io::write_all(STDERR, text);
 }
 
 // All of the line but its end.
@@ -34,24 +29,13 @@ pub fn name(expected: &[u8], word: &[u8]) {
 fn show(word: &[u8], shown: &mut [u8]) -> usize
     ensures { IsPrefixLen result shown.new }
 {
-    let mut i = 0;
-    while i < shown.len() {
-        if word.len() <= i {
-            return i;
-        }
-        shown[i] = on_a_line(word[i]);
-        i += 1;
+    for (place, b) in shown.iter_mut().zip(word.iter()) {
+        *place = on_a_line(*b);
     }
-    i
+    word.len().min(shown.len())
 }
 
 // A control character would end or spoil the line.
 fn on_a_line(b: u8) -> u8 {
-    if b < b' ' {
-        return b'?';
-    }
-    if b == 0x7F {
-        return b'?';
-    }
-    b
+    if b < b' ' || b == 0x7F { b'?' } else { b }
 }

@@ -1,10 +1,11 @@
 // What the words say.
-ghost use Rattle.std.specs.Prelude.{◌≡◌, ◌≤◌, drop};
+ghost use Rattle.std.specs.Prelude.{◌≡◌, ◌≤◌, IfSome, drop};
 ghost use Rattle.link.specs.Scripts.{all_letters};
-ghost use Rattle.text.specs.Numbers.{no_number, number_said};
+ghost use Rattle.text.specs.Numbers.{number_said};
 ghost use Rattle.boards.specs.Boards.{first_channel, last_channel};
 ghost use Rattle.commands.specs.Limits.{min_packet};
 ghost use Rattle.words.specs.Sayings.{most_size, channel_name, size_name, link_name, behind_name, number_between, no_words};
+ghost use Rattle.words.specs.Sayings.{board_channel, packet_size};
 ghost use Rattle.words.specs.Sayings.{not_taken, with_image, with_channel, with_size, with_link, word_said};
 
 use crate::complaint::complain;
@@ -13,7 +14,7 @@ use boards::list::{FIRST_CHANNEL, LAST_CHANNEL};
 use commands::limits::MIN_PACKET;
 use link::script;
 use sequences::part::{begins, behind};
-use text::number::{NONE, number};
+use text::number::number;
 
 const LEAST_CHANNEL: usize = FIRST_CHANNEL as usize;
 
@@ -24,32 +25,42 @@ const MOST_SIZE: usize = 65535;
 
 #[derive(Clone, Copy)]
 pub struct Words {
-    // The places of these two words among the arguments; 0 where there is none.
-    pub image: usize,
-    pub link: usize,
-    // What these two say, or what stands for them where there is none.
-    pub channel: u8,
-    pub size: u16,
-    pub has_channel: bool,
-    pub has_size: bool,
-    // There was a word that is not taken, and that has been told.
+    // The places of these two words among the arguments.
+    pub image: Option<usize>,
+    pub link: Option<usize>,
+    // What these two say.
+    pub channel: Option<u8>,
+    pub size: Option<u16>,
+    // There was a word that is not taken, and that has been told. A flag beside the others, as what they said stays (`not_taken`).
     pub is_bad: bool,
 }
 
 impl Words {
-    // What stands without a word.
+    // No word was said.
     pub fn none() -> Words
         ensures { result ≡ no_words }
     {
         Words {
-            image: 0,
-            link: 0,
-            channel: CHANNEL,
-            size: MIN_PACKET as u16,
-            has_channel: false,
-            has_size: false,
+            image: None,
+            link: None,
+            channel: None,
+            size: None,
             is_bad: false,
         }
+    }
+
+    // The channel of the board, said or not.
+    pub fn board_channel(self) -> u8
+        ensures { result ≡ board_channel self }
+    {
+        self.channel.unwrap_or(CHANNEL)
+    }
+
+    // The size of the packets, said or not.
+    pub fn packet_size(self) -> u16
+        ensures { result ≡ packet_size self }
+    {
+        self.size.unwrap_or(MIN_PACKET as u16)
     }
 
     // With the word at place i of the arguments.
@@ -77,54 +88,54 @@ impl Words {
     fn with_image(mut self, i: usize, word: &[u8]) -> Words
         ensures { result ≡ with_image self i }
     {
-        if self.image != 0 {
+        if self.image.is_some() {
             return self.refused(b"image comes once", word);
         }
-        self.image = i;
+        self.image = Some(i);
         self
     }
 
     fn with_channel(mut self, word: &[u8]) -> Words
         ensures { result ≡ with_channel self (number_between first_channel last_channel (behind_name channel_name word.now)) }
     {
-        if self.has_channel {
+        if self.channel.is_some() {
             return self.refused(b"channel comes once", word);
         }
-        let n = number_behind(word, b"channel=".len(), LEAST_CHANNEL, MOST_CHANNEL);
-        if n == NONE {
-            return self.refused(b"channel is 10 to 19", word);
+        match number_behind(word, b"channel=".len(), LEAST_CHANNEL, MOST_CHANNEL) {
+            Some(n) => {
+                self.channel = Some(n as u8);
+                self
+            }
+            None => self.refused(b"channel is 10 to 19", word),
         }
-        self.channel = n as u8;
-        self.has_channel = true;
-        self
     }
 
     fn with_size(mut self, word: &[u8]) -> Words
         ensures { result ≡ with_size self (number_between min_packet most_size (behind_name size_name word.now)) }
     {
-        if self.has_size {
+        if self.size.is_some() {
             return self.refused(b"size comes once", word);
         }
-        let n = number_behind(word, b"size=".len(), MIN_PACKET, MOST_SIZE);
-        if n == NONE {
-            return self.refused(b"size is 16 to 65535", word);
+        match number_behind(word, b"size=".len(), MIN_PACKET, MOST_SIZE) {
+            Some(n) => {
+                self.size = Some(n as u16);
+                self
+            }
+            None => self.refused(b"size is 16 to 65535", word),
         }
-        self.size = n as u16;
-        self.has_size = true;
-        self
     }
 
     fn with_link(mut self, i: usize, word: &[u8]) -> Words
         ensures { result ≡ with_link self i (behind_name link_name word.now) }
     {
-        if self.link != 0 {
+        if self.link.is_some() {
             return self.refused(b"link comes once", word);
         }
-        if is_script_behind(word, b"link=".len()) {
-            self.link = i;
-            return self;
+        if !is_script_behind(word, b"link=".len()) {
+            return self.refused(b"link has the letters p, l, r and s only", word);
         }
-        self.refused(b"link has the letters p, l, r and s only", word)
+        self.link = Some(i);
+        self
     }
 
     // A word is not taken: what is expected is told.
@@ -137,22 +148,18 @@ impl Words {
     }
 }
 
-// The number behind the name of a word, which has so many bytes; NONE where that is not from `least` to `most`.
-fn number_behind(word: &[u8], name: usize, least: usize, most: usize) -> usize
+// The number behind the name of a word, which has so many bytes, if it is from `least` to `most`.
+fn number_behind(word: &[u8], name: usize, least: usize, most: usize) -> Option<usize>
     ensures value { result ≡ number_between least most (drop name word.now) }
-    ensures upper_bound { (result ≡ no_number → ⊥) → result ≤ most }
+    ensures upper_bound { IfSome result (λ n. n ≤ most) }
 {
-    let n = said_behind(word, name);
-    if n < least {
-        return NONE;
+    match said_behind(word, name) {
+        Some(n) => { if n < least || most < n { None } else { Some(n) } }
+        None => None,
     }
-    if most < n {
-        return NONE;
-    }
-    n
 }
 
-fn said_behind(word: &[u8], name: usize) -> usize
+fn said_behind(word: &[u8], name: usize) -> Option<usize>
     ensures { result ≡ number_said (drop name word.now) }
 {
     number(behind(word, name))

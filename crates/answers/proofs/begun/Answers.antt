@@ -4,5 +4,4 @@ use Rattle.answers.proofs.begun.Goals as goal
 
 pub returns : goal.returns
 returns c =
-    one c.decimal.ensures
-    then one c.text.ensures
+    one c.decimal.ensures then one c.text.ensures

@@ -4,7 +4,4 @@ use Rattle.answers.proofs.called.Goals as goal
 
 pub returns : goal.returns
 returns c =
-    c.reading-read.ensures
-    then c.in_room-told.ensures
-    then one c.text.ensures
-    then c.span.ensures
+    c.reading.ensures then c.in_room.ensures then one c.text.ensures then c.span.ensures

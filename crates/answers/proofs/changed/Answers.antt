@@ -4,6 +4,4 @@ use Rattle.answers.proofs.changed.Goals as goal
 
 pub returns : goal.returns
 returns c =
-    one c.text.ensures
-    then c.record-told.ensures
-    then c.ended.ensures
+    one c.text.ensures then c.record.ensures then c.ended.ensures

@@ -4,5 +4,4 @@ use Rattle.answers.proofs.count.Goals as goal
 
 pub returns : goal.returns
 returns c =
-    one c.text.ensures
-    then one c.decimal.ensures
+    one c.text.ensures then one c.decimal.ensures

@@ -1,9 +1,9 @@
 -- `answers::decided` meets its contract. Assumes nothing.
-use Rattle.text.proofs.Texts.{one, ◌then◌}
+use mathlib.Core.Path.{ap}
+use Rattle.text.specs.Decimals.{decimal}
+use Rattle.text.proofs.Texts.{one, one_as, ◌then◌}
 use Rattle.answers.proofs.decided.Goals as goal
 
 pub returns : goal.returns
 returns c =
-    one c.decimal-outcome.ensures
-    then one c.text.ensures
-    then one c.decision.ensures
+    one_as (ap decimal c.from.ensures) c.decimal.ensures then one c.text.ensures then one_as c.decision.ensures c.text-2.ensures

@@ -4,6 +4,4 @@ use Rattle.answers.proofs.framed.Goals as goal
 
 pub returns : goal.returns
 returns c =
-    one c.decimal-given.ensures
-    then c.in_room-told.ensures
-    then c.ended.ensures
+    one c.decimal.ensures then c.in_room.ensures then c.ended.ensures

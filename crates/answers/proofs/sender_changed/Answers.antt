@@ -4,6 +4,4 @@ use Rattle.answers.proofs.sender_changed.Goals as goal
 
 pub returns : goal.returns
 returns c =
-    one c.text.ensures
-    then c.sender-told.ensures
-    then c.ended.ensures
+    one c.text.ensures then c.sender.ensures then c.ended.ensures

@@ -6,5 +6,5 @@ use Rattle.bench.proofs.open_on.Goals as goal
 
 pub returns : goal.returns
 returns c =
-    let gives = ap (λ (x : Opened). x.next) c.open-opened.ensures in
+    let gives = ap (λ (x : Opened). x.next) c.«open».ensures in
     record { gives = gives; fresh = λ least most. gives ∙ opens-fresh c.args.channel least most }

@@ -6,5 +6,5 @@ use Rattle.ends.proofs.open_sender.Goals as goal
 
 pub returns : goal.returns
 returns c =
-    let is = ap (λ (x : Opened). x.sender) c.open-opened.ensures in
+    let is = ap (λ (x : Opened). x.sender) c.«open».ensures in
     record { gives = is; fresh = λ least some most. is ∙ sender-opens c.args.channel c.args.size _ least some most }

@@ -1,7 +1,7 @@
 -- `ends::reply` meets its contract. Assumes nothing.
 use mathlib.Core.Path.{◌≡◌, ap, ◌∙◌}
 use native.Mathlib.Omega.{arith}
-use mathlib.Core.Bool.{true}
+use Rattle.link.specs.declared.frame.Way.TheVariants.{ToSender}
 use mathlib.Core.List.{List, ◌++◌}
 use Prim.Native.Nat.{ℕ}
 use lib.ListN.{length, drop}
@@ -14,6 +14,6 @@ use Rattle.ends.proofs.reply.Goals as goal
 pub returns : goal.returns
 returns c =
     let a = c.args in
-    let made : List ℕ → Frame = λ b. record { to_sender = true; bytes = b; length = a.length } in
+    let made : List ℕ → Frame = λ b. record { way = ToSender; bytes = b; length = a.length } in
     let all_copied : c.copy.result ≡ length a.room = omega (arith, c.copy.ensures.count) in
     ap made ((rw all_copied at c.copy.ensures.copied) ∙ ap (λ (s : List ℕ). s ++ drop (length a.room) (zeros max_frame)) (take-length a.room))

@@ -1,6 +1,6 @@
 -- `ends::request` meets its contract. Assumes nothing.
 use mathlib.Core.Path.{ap, ap₂}
-use mathlib.Core.Bool.{false}
+use Rattle.link.specs.declared.frame.Way.TheVariants.{ToController}
 use mathlib.Core.List.{List}
 use Prim.Native.Nat.{ℕ}
 use Rattle.sender.specs.declared.request.Requested.{Requested}
@@ -9,6 +9,6 @@ use Rattle.ends.proofs.request.Goals as goal
 
 pub returns : goal.returns
 returns c =
-    let e = c.request-requested.ensures in
-    let made : List ℕ → ℕ → Frame = λ b n. record { to_sender = false; bytes = b; length = n } in
+    let e = c.request-length.ensures in
+    let made : List ℕ → ℕ → Frame = λ b n. record { way = ToController; bytes = b; length = n } in
     ap₂ made e.1 (ap (λ (r : Requested). r.length) e.0)

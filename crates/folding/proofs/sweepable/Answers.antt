@@ -1,34 +1,25 @@
--- `folding::sweepable` meets its contract. The loop's invariant: the first i offsets passed. Assumes nothing.
-use mathlib.Core.Path.{refl, sym, ap, ◌∙◌}
+-- `folding::sweepable` meets its contract: `all` answers whether every offset passes. Assumes nothing.
+use borrow.Author.Rules.{rules}
+use borrow.Author.Tests.{tests}
+use mathlib.Core.Path.{sym, ap, ◌∙◌}
 use mathlib.Core.Bool.{Bool, ◌&&◌}
-use Prim.Native.Nat.{◌+◌}
-use native.Mathlib.Omega.{arith}
+use Prim.Native.Nat.{ℕ, ◌+◌}
 use lib.Dec.{leb}
-use Rattle.crc.specs.Folding.{sweepable}
-use Rattle.folding.proofs.Bounds.{passed-next, passed-all, too_far}
+use Rattle.std.proofs.lemmas.Iterator.{YieldsList-from_slice}
+use Rattle.std.proofs.lemmas.Iterator.Search.{all_from_yields_List}
+use Rattle.folding.proofs.Bounds.{tested}
 use Rattle.folding.proofs.sweepable.Goals as goal
 
-pub loop-i-init : goal.loop-i-init
-loop-i-init c = (omega arith, refl)
-
-pub returns-then-at-offsets : goal.returns-then-at-offsets
-unfolding sweepable
-returns-then-at-offsets c =
+pub returns-then-all : goal.returns-then-all
+returns-then-all c =
     let o = c.args in
-    let l = c.loop-i in
-    sym (ap (λ (t : Bool). t && leb (o.at + o.n) o.size)
-    (too_far o.offsets.now o.at l.i (omega arith) c.if-at-offsets.true l.invariant.1))
+    let passed = all_from_yields_List (λ (offset : ℕ). leb offset o.at) _ _ c.all.result c.all.ensures.ran
+    (YieldsList-from_slice o.offsets.now cc) (λ x b q k. search (rules, tests)) in
+    c.ends_in.ensures ∙ sym (tested o.offsets.now o.at o.n o.size _ passed ∙ ap (λ (t : Bool). t && leb (o.at + o.n) o.size) c.if-all.true)
 
-pub loop-i-preserved : goal.loop-i-preserved
-loop-i-preserved c =
+pub returns-else-all : goal.returns-else-all
+returns-else-all c =
     let o = c.args in
-    let l = c.loop-i in
-    (omega arith, passed-next o.offsets.now o.at l.i (omega arith) c.if-at-offsets.false l.invariant.1)
-
-pub returns : goal.returns
-unfolding sweepable
-returns c =
-    let o = c.args in
-    let l = c.loop-i in
-    c.ends_in.ensures
-    ∙ sym (ap (λ (t : Bool). t && leb (o.at + o.n) o.size) (passed-all o.offsets.now o.at l.i (omega arith) l.invariant.1))
+    let passed = all_from_yields_List (λ (offset : ℕ). leb offset o.at) _ _ c.all.result c.all.ensures.ran
+    (YieldsList-from_slice o.offsets.now cc) (λ x b q k. search (rules, tests)) in
+    c.if-all.false ∙ sym (tested o.offsets.now o.at o.n o.size _ passed ∙ ap (λ (t : Bool). t && leb (o.at + o.n) o.size) c.if-all.false)

@@ -14,12 +14,12 @@ pub digits-requires : goal.digits-requires
 digits-requires c =
     let good = c.well_formed in
     let size : length c.args.frame.bytes ≡ max_frame = search rules in
-    omega (arith, ap length c.front-all.ensures, length-take c.args.frame.length c.args.frame.bytes)
+    omega (arith, ap length c.front-bytes.ensures, length-take c.args.frame.length c.args.frame.bytes)
 
 pub returns : goal.returns
 returns c =
-    let all = c.front-all.ensures in
+    let all = c.front-bytes.ensures in
     let command = c.byte-command.ensures ∙ ap hex_byte (c.command.ensures ∙ ap command_at all) in
-    more c.way.ensures
-    (more (added_as command c.text.ensures)
-    (more c.text-told.ensures (more (added_as (ap hex_bytes all) c.digits.ensures) (one c.text-2.ensures))))
+    more (added_as c.arrow.ensures c.text.ensures)
+    (more (added_as command c.text-2.ensures)
+    (more c.text-3.ensures (more (added_as (ap hex_bytes all) c.digits.ensures) (one c.text-4.ensures))))

@@ -4,5 +4,4 @@ use Rattle.text.proofs.Texts.{one}
 use Rattle.transcript.proofs.stored_of.Goals as goal
 
 pub returns : goal.returns
-returns c =
-    more c.text.ensures (more c.decimal.ensures (more c.text-2.ensures (one c.decimal-2.ensures)))
+returns c = more c.text.ensures (more c.decimal.ensures (more c.text-2.ensures (one c.decimal-2.ensures)))

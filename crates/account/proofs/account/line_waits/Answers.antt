@@ -1,9 +1,9 @@
 -- `account::account::line_waits` meets its contract. Assumes nothing.
-use Rattle.std.proofs.Common.{eq-eqb, ne_eqb}
+use Rattle.commands.proofs.Outcomes.{is-same, not-same}
 use Rattle.account.proofs.account.line_waits.Goals as goal
 
-pub returns-then-c-eq-NO_FRAME_YET : goal.returns-then-c-eq-NO_FRAME_YET
-returns-then-c-eq-NO_FRAME_YET c = simp (eq-eqb _ _ c.if-c-eq-NO_FRAME_YET.true)
+pub returns-in-NoFrameYet : goal.returns-in-NoFrameYet
+returns-in-NoFrameYet c = simp (is-same _ _ c.in-NoFrameYet.is)
 
-pub returns : goal.returns
-returns c = simp (ne_eqb _ _ c.if-c-eq-NO_FRAME_YET.false, c.is_checking.ensures)
+pub returns-in_default : goal.returns-in_default
+returns-in_default c = simp (not-same _ _ c.in_default.not-NoFrameYet, c.is_checking.ensures)

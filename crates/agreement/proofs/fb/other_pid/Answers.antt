@@ -1,8 +1,8 @@
 -- `agreement::fb::other_pid` meets its contract. Assumes nothing.
+use mathlib.Core.Path.{ap, ◌∙◌}
+use mathlib.Core.Bool.{not}
+use Rattle.sequences.proofs.Sames.{equality_is_same}
 use Rattle.agreement.proofs.fb.other_pid.Goals as goal
 
-pub returns-then-same8 : goal.returns-then-same8
-returns-then-same8 c = simp (← c.same8.ensures, c.if-same8.true)
-
 pub returns : goal.returns
-returns c = simp (← c.same8.ensures, c.if-same8.false)
+returns c = c.ne.ensures ∙ ap not (equality_is_same c.args.r.pid c.args.board.pid)

@@ -1,38 +1,22 @@
--- `boards::list::list_of` meets its contract. The loop's invariant: the unused places are zero up to place i. Assumes nothing.
+-- `boards::list::list_of` meets its contract. Assumes nothing.
 use borrow.Author.Rules.{rules}
-use mathlib.Core.Path.{◌≡◌, ap, ◌∙◌}
-use mathlib.Core.List.{List}
-use Prim.Native.Nat.{◌-◌}
+use mathlib.Core.Path.{◌≡◌, refl, ◌∙◌}
 use native.Mathlib.Omega.{arith}
-use lib.ListN.{length, set}
-use Rattle.boards.specs.declared.board.Board.{Board}
-use Rattle.boards.specs.Boards.{list_of}
-use Rattle.boards.proofs.Lists.{filled_none, filled_next, filled-all}
+use lib.ListN.{length}
+use Rattle.boards.specs.Boards.{list_of, no_board}
+use Rattle.boards.proofs.Lists.{filled-rest, all-taken}
 use Rattle.boards.proofs.list.list_of.Goals as goal
 
-pub loop-i-init : goal.loop-i-init
-loop-i-init c = (search rules, (search rules, filled_none c.args.boards c.no_board-none.result c.args.count))
-
-pub loop-i-preserved : goal.loop-i-preserved
-loop-i-preserved c =
-    let a = c.args in
-    let l = c.loop-i in
-    let z = c.no_board-none.result in
-    let size : length a.boards ≡ 10 = search rules in (
-      search rules,
-      (
-        search rules,
-        ap (λ (x : List Board). set x l.i z) l.invariant.1.1
-            ∙ filled_next a.boards z a.count l.i l.invariant.0 (omega arith),
-      ),
-    )
-
-pub returns : goal.returns
+pub returns-then-count-lt-MAX_BOARDS : goal.returns-then-count-lt-MAX_BOARDS
 unfolding list_of
-returns c =
+returns-then-count-lt-MAX_BOARDS c =
     let a = c.args in
-    let l = c.loop-i in
-    let z = c.no_board-none.result in
     let size : length a.boards ≡ 10 = search rules in
-    let e : l.i - a.count ≡ 10 - a.count = omega arith in
-    l.invariant.1.1 ∙ filled-all a.boards z a.count l.i (omega arith) ∙ simp (e, c.no_board-none.ensures)
+    filled-rest a.boards _ no_board a.count 10 size (omega arith) c.fill.ensures.len
+    (λ k d h. c.fill.ensures.clones k d h refl ∙ c.no_board.ensures)
+
+pub returns-else-count-lt-MAX_BOARDS : goal.returns-else-count-lt-MAX_BOARDS
+unfolding list_of
+returns-else-count-lt-MAX_BOARDS c =
+    let size : length c.args.boards ≡ 10 = search rules in
+    all-taken c.args.boards no_board c.args.count 10 size (omega arith)

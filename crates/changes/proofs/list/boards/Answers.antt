@@ -1,5 +1,4 @@
--- `changes::list::boards` meets its contract. The loop's invariant: the boards at the first i places are told. Assumes nothing.
-use borrow.Author.Rules.{rules}
+-- `changes::list::boards` meets its contract. Assumes nothing.
 use mathlib.Core.Path.{◌≡◌, ap}
 use native.Mathlib.Omega.{arith}
 use Rattle.boards.specs.Boards.{max_boards}
@@ -10,16 +9,16 @@ use Rattle.changes.proofs.BoardLists.{boards_none, boards_next}
 use Rattle.changes.proofs.list.boards.Goals as goal
 
 pub loop-i-init : goal.loop-i-init
-loop-i-init c = (search rules, texts_as (boards_none c.args.before c.args.after) none)
+loop-i-init c = texts_as (boards_none c.args.before c.args.after) none
 
 pub loop-i-preserved : goal.loop-i-preserved
 loop-i-preserved c =
     let a = c.args in
     let next = boards_next a.before a.after c.loop-i.i c.board_at.ensures c.board_at-in-loop-i.ensures in
-    (search rules, texts_as next (c.loop-i.invariant.1 then c.place-told.ensures))
+    texts_as next (c.loop-i.invariant then c.place.ensures)
 
 pub returns : goal.returns
 returns c =
     let a = c.args in
     let all : c.loop-i.i ≡ max_boards = omega arith in
-    texts_as (ap (board_fields a.before a.after) all) c.loop-i.invariant.1
+    texts_as (ap (board_fields a.before a.after) all) c.loop-i.invariant

@@ -4,10 +4,10 @@ use Rattle.text.specs.Outputs.{none, more}
 use Rattle.text.proofs.Texts.{one, ◌then◌}
 use Rattle.changes.proofs.list.place.Goals as goal
 
-pub returns-then-same_board : goal.returns-then-same_board
-returns-then-same_board c = simp (sym c.same_board.ensures ∙ c.if-same_board.true) none
+pub returns-then-not-same_board : goal.returns-then-not-same_board
+returns-then-not-same_board c =
+    simp (sym c.same_board.ensures ∙ c.if-not-same_board.true)
+    (more c.text.ensures (more c.decimal.ensures (one c.text-then-not-same_board.ensures)) then c.board.ensures)
 
-pub returns : goal.returns
-returns c =
-    simp (sym c.same_board.ensures ∙ c.if-same_board.false)
-    (more c.text.ensures (more c.decimal-told.ensures (one c.text-2.ensures)) then c.board.ensures)
+pub returns-else-not-same_board : goal.returns-else-not-same_board
+returns-else-not-same_board c = simp (sym c.same_board.ensures ∙ c.if-not-same_board.false) none

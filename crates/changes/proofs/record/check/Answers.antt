@@ -8,4 +8,4 @@ use Rattle.changes.proofs.record.check.Goals as goal
 pub returns : goal.returns
 returns c =
     let told = ap₂ (number_field (ascii " checking=")) c.bit-was.ensures c.bit-is.ensures in
-    texts_as told c.number-told.ensures then c.number-told-2.ensures then c.four_bytes.ensures
+    texts_as told c.number.ensures then c.number-2.ensures then c.four_bytes.ensures

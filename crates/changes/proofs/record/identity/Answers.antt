@@ -3,9 +3,4 @@ use Rattle.text.proofs.Texts.{◌then◌}
 use Rattle.changes.proofs.record.identity.Goals as goal
 
 pub returns : goal.returns
-returns c =
-    c.channel-told.ensures
-    then c.version-told.ensures
-    then c.number-told.ensures
-    then c.md5-told.ensures
-    then c.four_bytes.ensures
+returns c = c.channel.ensures then c.bytes.ensures then c.number.ensures then c.bytes-2.ensures then c.four_bytes.ensures

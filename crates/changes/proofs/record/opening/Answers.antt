@@ -3,5 +3,4 @@ use Rattle.text.proofs.Texts.{◌then◌}
 use Rattle.changes.proofs.record.opening.Goals as goal
 
 pub returns : goal.returns
-returns c =
-    c.number-told.ensures then c.boards-told.ensures then c.number.ensures
+returns c = c.number.ensures then c.boards.ensures then c.number-2.ensures

@@ -3,5 +3,4 @@ use Rattle.text.proofs.Texts.{◌then◌}
 use Rattle.changes.proofs.record.reader.Goals as goal
 
 pub returns : goal.returns
-returns c =
-    c.number-told.ensures then c.held.ensures
+returns c = c.number.ensures then c.held.ensures

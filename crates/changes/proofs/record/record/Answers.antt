@@ -3,5 +3,4 @@ use Rattle.text.proofs.Texts.{one, ◌then◌}
 use Rattle.changes.proofs.record.record.Goals as goal
 
 pub returns : goal.returns
-returns c =
-    one c.text.ensures then c.opening-told.ensures then c.reader-told.ensures then c.transfer.ensures
+returns c = one c.text.ensures then c.opening.ensures then c.reader.ensures then c.transfer.ensures

@@ -3,9 +3,4 @@ use Rattle.text.proofs.Texts.{◌then◌}
 use Rattle.changes.proofs.record.transfer.Goals as goal
 
 pub returns : goal.returns
-returns c =
-    c.leg-told.ensures
-    then c.number-told.ensures
-    then c.identity-told.ensures
-    then c.number-told-2.ensures
-    then c.check.ensures
+returns c = c.leg.ensures then c.number.ensures then c.identity.ensures then c.number-2.ensures then c.check.ensures

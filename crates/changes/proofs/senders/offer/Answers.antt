@@ -4,9 +4,9 @@ use Rattle.changes.proofs.senders.offer.Goals as goal
 
 pub returns : goal.returns
 returns c =
-    c.channel-told.ensures
-    then c.pid-told.ensures
-    then c.version-told.ensures
-    then c.md5-told.ensures
-    then c.number-told.ensures
+    c.channel.ensures
+    then c.bytes.ensures
+    then c.bytes-2.ensures
+    then c.bytes-3.ensures
     then c.number.ensures
+    then c.number-2.ensures

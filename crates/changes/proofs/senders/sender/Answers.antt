@@ -3,5 +3,4 @@ use Rattle.text.proofs.Texts.{one, ◌then◌}
 use Rattle.changes.proofs.senders.sender.Goals as goal
 
 pub returns : goal.returns
-returns c =
-    one c.text.ensures then c.offer-told.ensures then c.position-told.ensures then c.tries.ensures
+returns c = one c.text.ensures then c.offer.ensures then c.position.ensures then c.tries.ensures

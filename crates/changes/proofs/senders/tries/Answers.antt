@@ -3,5 +3,4 @@ use Rattle.text.proofs.Texts.{◌then◌}
 use Rattle.changes.proofs.senders.tries.Goals as goal
 
 pub returns : goal.returns
-returns c =
-    c.number-told.ensures then c.number.ensures
+returns c = c.number.ensures then c.number-2.ensures

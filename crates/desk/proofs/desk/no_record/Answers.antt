@@ -2,4 +2,4 @@
 use Rattle.desk.proofs.desk.no_record.Goals as goal
 
 pub returns : goal.returns
-returns c = simp c.none-session.ensures
+returns c = simp c.none.ensures

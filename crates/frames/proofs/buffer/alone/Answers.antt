@@ -7,6 +7,6 @@ pub returns-then-whole : goal.returns-then-whole
 unfolding alone_at
 returns-then-whole c = simp (sym c.whole.ensures ∙ c.if-whole.true, c.data.ensures.result_value)
 
-pub returns : goal.returns
+pub returns-else-whole : goal.returns-else-whole
 unfolding alone_at
-returns c = simp (sym c.whole.ensures ∙ c.if-whole.false)
+returns-else-whole c = c.if-whole.false ∙ simp (sym c.whole.ensures ∙ c.if-whole.false)

@@ -51,7 +51,7 @@ returns-in-Whole c =
     let o = c.args in
     let l = c.loop-from in
     let v = o.a.now ++ o.b.now in
-    let whole : front_of (slice l.from l.to v) ≡ Whole = sym c.front_at-f.ensures ∙ c.in-Whole.is in
+    let whole : front_of (slice l.from l.to v) ≡ Whole = sym c.front_at.ensures ∙ c.in-Whole.is in
     record {
       stop = record { ordered = omega arith; within = omega arith; taken = omega arith; small = omega arith; whole = λ _. whole };
       is = l.invariant.1.1.1.1 ∙ feeding-whole-at v (length o.a.now) l.from l.to whole;
@@ -65,7 +65,7 @@ next_head_of-from-requires c =
     let o = c.args in
     let l = c.loop-from in
     let some =
-    dead-loses (o.a.now ++ o.b.now) (length o.a.now) l.from l.to c.front_at-f.result (omega arith) c.front_at-f.ensures c.in-Dead.is in
+    dead-loses (o.a.now ++ o.b.now) (length o.a.now) l.from l.to c.front_at.result (omega arith) c.front_at.ensures c.in-Dead.is in
     omega (arith, some)
 
 pub loop-from-smaller-in-Dead : goal.loop-from-smaller-in-Dead
@@ -73,7 +73,7 @@ loop-from-smaller-in-Dead c =
     let o = c.args in
     let l = c.loop-from in
     let some =
-    dead-loses (o.a.now ++ o.b.now) (length o.a.now) l.from l.to c.front_at-f.result (omega arith) c.front_at-f.ensures c.in-Dead.is in
+    dead-loses (o.a.now ++ o.b.now) (length o.a.now) l.from l.to c.front_at.result (omega arith) c.front_at.ensures c.in-Dead.is in
     let ordered = c.next_head_of-from.ensures.ordered in
     omega (arith, some)
 
@@ -86,7 +86,7 @@ loop-from-preserved-in-Dead c =
     let at = c.next_head_of-from in
     let o = at.ensures.ordered in
     let w = at.ensures.within in
-    let dead : front_of (slice l.from l.to v) ≡ Dead = sym c.front_at-f.ensures ∙ c.in-Dead.is in
+    let dead : front_of (slice l.from l.to v) ≡ Dead = sym c.front_at.ensures ∙ c.in-Dead.is in
     let some = dead-some v n l.from l.to (omega arith) dead in
     let size = length-append x.a.now x.b.now in
     let end : l.to ≤ length v = omega (arith, size) in
@@ -102,7 +102,7 @@ returns-then-to-all c =
     let l = c.loop-from in
     let v = o.a.now ++ o.b.now in
     let n = length o.a.now in
-    let undecided : front_of (slice l.from l.to v) ≡ Open = sym c.front_at-f.ensures ∙ c.in-Open.is in
+    let undecided : front_of (slice l.from l.to v) ≡ Open = sym c.front_at.ensures ∙ c.in-Open.is in
     let last : l.to ≡ length v = omega (arith, length-append o.a.now o.b.now) in
     record {
       stop = record {
@@ -126,7 +126,7 @@ overflow_add-to c = omega arith
 
 pub loop-from-smaller : goal.loop-from-smaller
 loop-from-smaller c =
-    let undecided = c.missing.ensures (omega arith) (omega arith) (sym c.front_at-f.ensures ∙ c.in-Open.is) in
+    let undecided = c.missing.ensures (omega arith) (omega arith) (sym c.front_at.ensures ∙ c.in-Open.is) in
     omega (arith, undecided.some)
 
 pub loop-from-preserved : goal.loop-from-preserved
@@ -138,7 +138,7 @@ loop-from-preserved c =
     let k = c.smaller-to.result in
     let m = c.missing.result in
     let size = length-append o.a.now o.b.now in
-    let undecided = c.missing.ensures (omega arith) (omega arith) (sym c.front_at-f.ensures ∙ c.in-Open.is) in
+    let undecided = c.missing.ensures (omega arith) (omega arith) (sym c.front_at.ensures ∙ c.in-Open.is) in
     let least : k ≡ m - (m - (length v - l.to)) = omega (arith, size, c.smaller-to.ensures) in
     let order : l.from ≤ l.to = omega arith in
     let held : n ≤ l.to = omega arith in

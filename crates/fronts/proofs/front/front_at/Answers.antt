@@ -29,8 +29,3 @@ returns-then-end-from c =
     let is = c.smaller-end.ensures in
     sym (ap front_of (within o.a.now o.b.now o.from o.to end is)
     ∙ open_none (slice o.from end (o.a.now ++ o.b.now)) (none o.a.now o.b.now o.from o.to end is c.if-end-from.true))
-
-pub returns : goal.returns
-returns c =
-    let o = c.args in
-    c.front_within.ensures ∙ ap front_of (sym (within o.a.now o.b.now o.from o.to c.smaller-end.result c.smaller-end.ensures))

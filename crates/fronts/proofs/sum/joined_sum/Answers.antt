@@ -11,7 +11,6 @@ returns c =
     let o = c.args in
     let first = c.sum-first.ensures ∙ ap sum_byte c.between.ensures in
     let second = c.sum-second.ensures ∙ ap sum_byte c.second.ensures in
-    c.wrapping_add_u8.ensures.value
-    ∙ ap₂ (λ (x y : ℕ). (x + y) % 256) first second
+    ap₂ (λ (x y : ℕ). (x + y) % 256) first second
     ∙ sum-append (slice o.from o.to o.a.now) (slice (o.from - length o.a.now) (o.to - length o.a.now) o.b.now)
     ∙ ap sum_byte (sym (slice-parts o.from o.to o.a.now o.b.now))

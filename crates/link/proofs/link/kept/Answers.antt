@@ -10,7 +10,6 @@ pub returns : goal.returns
 returns c =
     let a = c.args in
     let none = zeros place_size in
-    let size = c.copy_out-arg-1.given in
     c.copy_out.ensures
     ∙ ap (λ (i : ℕ). written_at none 0 (take (length none) (drop i a.memory.now))) c.start.ensures
     ∙ copied-out a.memory.now none (place_start a.at) place_size refl (omega arith)

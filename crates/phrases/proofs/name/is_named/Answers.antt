@@ -10,15 +10,15 @@ unfolding is_named
 returns-then-begins c =
     let row = c.row_at-row in
     let line = c.args.line.now in
-    let name : c.begins.result ≡ begins_with line (take row.result.1 row.result.0) =
+    let name : c.begins.result ≡ begins_with line (take row.result.name_length row.result.name) =
     c.begins.ensures ∙ ap (begins_with line) c.front.ensures in
     simp (← row.ensures, ← name, c.if-begins.true, ← c.name_ends.ensures)
 
-pub returns : goal.returns
+pub returns-else-begins : goal.returns-else-begins
 unfolding is_named
-returns c =
+returns-else-begins c =
     let row = c.row_at-row in
     let line = c.args.line.now in
-    let name : c.begins.result ≡ begins_with line (take row.result.1 row.result.0) =
+    let name : c.begins.result ≡ begins_with line (take row.result.name_length row.result.name) =
     c.begins.ensures ∙ ap (begins_with line) c.front.ensures in
     simp (← row.ensures, ← name, c.if-begins.false)

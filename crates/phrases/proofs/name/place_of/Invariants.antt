@@ -1,14 +1,10 @@
 -- `phrases::name::place_of` meets its contract. The loop's invariant: the search from place i on finds what the whole search finds.
 -- Assumes nothing.
-use mathlib.Core.Path.{◌≡◌}
-use Prim.Native.Nat.{◌≤◌, ◌-◌}
+use Rattle.std.proofs.Common.{◌≡◌, ◌-◌}
 use Rattle.sequences.specs.Search.{find}
 use Rattle.phrases.specs.Table.{row_count}
 use Rattle.phrases.specs.Names.{is_named, command_place}
 use Rattle.phrases.proofs.name.place_of.Given as goal
 
 abbrev pub invariant-loop-i : goal.invariant-loop-i
-invariant-loop-i l = (l.i ≤ row_count) × (find (is_named l.line) (row_count - l.i) l.i ≡ command_place l.line)
-
-abbrev pub decreases-loop-i : goal.decreases-loop-i
-decreases-loop-i l = row_count - l.i
+invariant-loop-i l = find (is_named l.line) (row_count - l.i) l.i ≡ command_place l.line

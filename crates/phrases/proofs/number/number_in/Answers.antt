@@ -10,7 +10,7 @@ use Rattle.phrases.proofs.number.number_in.Goals as goal
 
 pub returns-then-start-eq0 : goal.returns-then-start-eq0
 unfolding number_in
-returns-then-start-eq0 c = simp (← c.spaces-start.ensures, eq-eqb _ _ c.if-start-eq0.true, c.bad.ensures)
+returns-then-start-eq0 c = simp (← c.spaces-start.ensures, eq-eqb _ _ c.if-start-eq0.true)
 
 pub returns-then-count-eq0 : goal.returns-then-count-eq0
 unfolding number_in
@@ -21,7 +21,6 @@ returns-then-count-eq0 c =
       ← c.behind-rest.ensures,
       ← c.digits-count.ensures,
       eq-eqb _ _ c.if-count-eq0.true,
-      c.bad-then-count-eq0.ensures,
     )
 
 pub returns-then-count-gt-MOST_DIGITS : goal.returns-then-count-gt-MOST_DIGITS
@@ -34,7 +33,6 @@ returns-then-count-gt-MOST_DIGITS c =
       ← c.digits-count.ensures,
       ne_eqb _ _ c.if-count-eq0.false,
       lt-ltb _ _ c.if-count-gt-MOST_DIGITS.true,
-      c.bad-then-count-gt-MOST_DIGITS.ensures,
     )
 
 pub overflow_add-start : goal.overflow_add-start

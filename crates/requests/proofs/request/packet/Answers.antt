@@ -8,6 +8,7 @@ use lib.Dec.{ltb}
 use Rattle.fronts.specs.Frame.{max_data}
 use Rattle.requests.specs.Requests.{packet_of, packet_place}
 use Rattle.requests.proofs.request.packet.Goals as goal
+use Rattle.requests.proofs.request.packet.Goals.{then-length-lt-PACKET-via-then-length-lt-PACKET, then-length-lt-PACKET-via-else-length-lt-PACKET+then-length-gt-MAX_DATA}
 
 -- too little for an FD or too much for a frame: the part begins at the first byte; else at FD's bytes
 unfit : (L at : ℕ) → (ltb L 7 || ltb max_data L) ≡ true → at ≡ packet_place L + at
@@ -21,15 +22,14 @@ fit L at e = sym (ap (λ (b : Bool). cond b 0 7 + at) e)
 pub returns-then-length-lt-PACKET : goal.returns-then-length-lt-PACKET
 unfolding packet_of
 returns-then-length-lt-PACKET c =
-    let e = lt-ltb _ _ c.if-length-lt-PACKET.true in
-    record { result_value = simp e; ref_ptr_value = (refl, unfit _ _ (simp e)) }
-
-pub returns-then-length-gt-MAX_DATA : goal.returns-then-length-gt-MAX_DATA
-unfolding packet_of
-returns-then-length-gt-MAX_DATA c =
-    let e = le-ltb _ _ c.if-length-lt-PACKET.false in
-    let e2 = lt-ltb _ _ c.if-length-gt-MAX_DATA.true in
-    record { result_value = simp (e, e2); ref_ptr_value = (refl, unfit _ _ (simp (e, e2))) }
+    let L = c.args.length in
+    let e : (ltb L 7 || ltb max_data L) ≡ true =
+    elim c.then-length-lt-PACKET.branch [
+      | then-length-lt-PACKET-via-then-length-lt-PACKET w ↦ simp (lt-ltb _ _ w.if-length-lt-PACKET.true)
+      | then-length-lt-PACKET-via-else-length-lt-PACKET+then-length-gt-MAX_DATA w ↦
+          simp (le-ltb _ _ w.if-length-lt-PACKET.false, lt-ltb _ _ w.if-length-gt-MAX_DATA.true)
+    ] in
+    record { result_value = simp e; ref_ptr_value = (refl, unfit L _ e) }
 
 pub returns : goal.returns
 unfolding packet_of

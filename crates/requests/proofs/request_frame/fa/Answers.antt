@@ -14,4 +14,4 @@ returns c =
     let begun = c.with.ensures ∙ with_field 0xFA [] (byte r.channel)
     c.empty.ensures refl (omega arith) in
     c.with-2.ensures ∙ with_field 0xFA (byte r.channel) (bytes16 r.len1) begun
-    c.bytes16-len1.ensures (omega arith)
+    c.bytes16.ensures (omega arith)

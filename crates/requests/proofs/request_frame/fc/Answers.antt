@@ -14,4 +14,4 @@ returns c =
     let begun = c.with.ensures ∙ with_field 0xFC [] (byte r.channel)
     c.empty.ensures refl (omega arith) in
     c.with-2.ensures ∙ with_field 0xFC (byte r.channel) (bytes32 r.offset) begun
-    c.bytes32-offset.ensures (omega arith)
+    c.bytes32.ensures (omega arith)

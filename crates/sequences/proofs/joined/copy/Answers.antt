@@ -17,8 +17,8 @@ first a from to = slice from to a
 abbrev second : List ℕ → List ℕ → ℕ → ℕ → List ℕ
 second a b from to = slice (from - length a) (to - length a) b
 
-pub returns-then-out-n : goal.returns-then-out-n
-returns-then-out-n c =
+pub returns-else-n-y : goal.returns-else-n-y
+returns-else-n-y c =
     let a = c.args.a.now in
     let b = c.args.b.now in
     let f = first a c.args.from c.args.to in
@@ -29,8 +29,8 @@ returns-then-out-n c =
     sym (ap (written_at out 0) (slice-parts c.args.from c.args.to a b) ∙ written_past out (f ++ s) 0
     (omega (arith, x, y, length-append f s)))
 
-pub returns : goal.returns
-returns c =
+pub returns-then-n-y : goal.returns-then-n-y
+returns-then-n-y c =
     let a = c.args.a.now in
     let b = c.args.b.now in
     let f = first a c.args.from c.args.to in
@@ -39,7 +39,7 @@ returns c =
     let x = c.between-x.ensures in
     let y = c.second-y.ensures in
     let n = ap length x in
-    c.write-2.ensures
+    c.write-then-n-y.ensures
     ∙ ap₂ (λ (l r : List ℕ). written_at l (length c.between-x.result.now) r)
     c.write.ensures y
     ∙ ap (λ (l : List ℕ). written_at (written_at out 0 l) (length l) s) x

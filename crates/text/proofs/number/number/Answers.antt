@@ -1,49 +1,43 @@
--- `text::number::number` meets its contract. The loop's invariant: the first i digits say n, which is less than 10 ^ i. Assumes nothing.
-use borrow.Author.Tests.{lt-ltb, le-ltb, eq-eqb, ne_eqb}
-use mathlib.Core.Path.{sym, ap, ◌∙◌}
-use native.Mathlib.Omega.{arith}
-use lib.ListN.{drop_of_length-le}
+-- `text::number::number` meets its contract. Assumes nothing.
+use Rattle.std.proofs.Common.{sym, ap, ◌∙◌, arith, le-ltb, drop_of_length-le}
 use Rattle.text.specs.Numbers.{said_behind}
 use Rattle.text.proofs.Numbers.{of-five, one_more, no_digit, one_more_digit}
 use Rattle.text.proofs.number.number.Goals as goal
 
-pub returns-then-digits-eq0 : goal.returns-then-digits-eq0
-returns-then-digits-eq0 c = simp (eq-eqb _ _ c.if-digits-eq0.true)
-
-pub returns-then-digits-gt-MOST_DIGITS : goal.returns-then-digits-gt-MOST_DIGITS
-returns-then-digits-gt-MOST_DIGITS c = simp (ne_eqb _ _ c.if-digits-eq0.false, lt-ltb _ _ c.if-digits-gt-MOST_DIGITS.true)
-
-pub loop-i-init : goal.loop-i-init
-loop-i-init c =
-    (omega arith, (omega arith, (omega arith, simp (ne_eqb _ _ c.if-digits-eq0.false, le-ltb _ _ c.if-digits-gt-MOST_DIGITS.false))))
-
-pub returns-then-d-gt9 : goal.returns-then-d-gt9
-returns-then-d-gt9 c =
-    let l = c.loop-i in
-    let s = c.args.digits.now in
-    sym (l.invariant.1.1.1 ∙ no_digit s l.n l.i _ (omega arith) c.digit-d.ensures c.if-d-gt9.true)
+pub loop-b-init : goal.loop-b-init
+loop-b-init c = record {
+  few = omega arith;
+  below = omega arith;
+  says = simp (← c.is_empty.ensures, c.if-is_empty.false, le-ltb _ _ c.if-digits-gt-MOST_DIGITS.false);
+}
 
 pub overflow_mul-n : goal.overflow_mul-n
 overflow_mul-n c =
-    let l = c.loop-i in
-    let few = of-five l.n l.i l.invariant.1.1.0 (omega arith) in
+    let l = c.loop-b in
+    let few = of-five l.n l.b-index l.invariant.below (omega arith) in
     omega arith
 
 pub overflow_add-n : goal.overflow_add-n
 overflow_add-n c =
-    let l = c.loop-i in
-    let few = of-five l.n l.i l.invariant.1.1.0 (omega arith) in
-    omega arith
+    let l = c.loop-b in
+    let few = of-five l.n l.b-index l.invariant.below (omega arith) in
+    let d = one_more_digit c.args.digits.now l.n l.b-index c.loop-b-test.true c.in_ok-n.field-0 (sym c.digit.ensures ∙ c.in_ok-n.was) in
+    omega (arith, d.0)
 
-pub loop-i-preserved : goal.loop-i-preserved
-loop-i-preserved c =
-    let l = c.loop-i in
-    let s = c.args.digits.now in
-    let more = one_more_digit s l.n l.i _ (omega arith) c.digit-d.ensures c.if-d-gt9.false in
-    (omega arith, (l.invariant.1.0, (one_more l.n l.i _ l.invariant.1.1.0 (omega arith), l.invariant.1.1.1 ∙ more)))
+pub returns-in_err-n : goal.returns-in_err-n
+returns-in_err-n c =
+    let l = c.loop-b in
+    let none = no_digit c.args.digits.now l.n l.b-index c.loop-b-test.true (sym c.digit.ensures ∙ c.in_err-n.was) in
+    c.from_residual.ensures ∙ sym (l.invariant.says ∙ none)
+
+pub loop-b-preserved : goal.loop-b-preserved
+loop-b-preserved c =
+    let l = c.loop-b in
+    let d = one_more_digit c.args.digits.now l.n l.b-index c.loop-b-test.true c.in_ok-n.field-0 (sym c.digit.ensures ∙ c.in_ok-n.was) in
+    record { few = l.invariant.few; below = one_more l.n l.b-index _ l.invariant.below d.0; says = l.invariant.says ∙ d.1 }
 
 pub returns : goal.returns
 returns c =
-    let l = c.loop-i in
+    let l = c.loop-b in
     let s = c.args.digits.now in
-    sym (l.invariant.1.1.1 ∙ ap (said_behind l.n) (drop_of_length-le s {i = l.i} (omega arith)))
+    sym (l.invariant.says ∙ ap (said_behind l.n) (drop_of_length-le s {i = l.b-index} (omega arith)))

@@ -3,9 +3,8 @@ use mathlib.Core.Path.{sym, ◌∙◌}
 use Rattle.text.specs.Outputs.{none, more}
 use Rattle.values.proofs.field.bytes.Goals as goal
 
-pub returns-then-same : goal.returns-then-same
-returns-then-same c = simp (sym c.same.ensures ∙ c.if-same.true) none
+pub returns-then-not-same : goal.returns-then-not-same
+returns-then-not-same c = simp (sym c.same.ensures ∙ c.if-not-same.true) (more c.text.ensures c.digits.ensures)
 
-pub returns : goal.returns
-returns c =
-    simp (sym c.same.ensures ∙ c.if-same.false) (more c.text.ensures c.digits.ensures)
+pub returns-else-not-same : goal.returns-else-not-same
+returns-else-not-same c = simp (sym c.same.ensures ∙ c.if-not-same.false) none

@@ -1,9 +1,11 @@
 -- `values::field::phase` meets its contract. Assumes nothing.
-use mathlib.Core.Path.{ap₂}
-use Rattle.text.proofs.Texts.{texts_as}
-use Rattle.values.specs.Fields.{phase_field}
+use mathlib.Core.Path.{sym, ◌∙◌}
+use Rattle.text.specs.Outputs.{none, more}
+use Rattle.text.proofs.Texts.{one}
 use Rattle.values.proofs.field.phase.Goals as goal
 
-pub returns : goal.returns
-returns c =
-    texts_as (ap₂ phase_field c.of_phase.ensures c.of_phase-2.ensures) c.by_name.ensures
+pub returns-then-not-same : goal.returns-then-not-same
+returns-then-not-same c = simp (sym c.same.ensures ∙ c.if-not-same.true) (more c.text.ensures (one c.text-then-not-same.ensures))
+
+pub returns-else-not-same : goal.returns-else-not-same
+returns-else-not-same c = simp (sym c.same.ensures ∙ c.if-not-same.false) none

@@ -13,11 +13,11 @@ returns-then-first-end c =
     c.behind_last-to.ensures c.if-first-end.true in
     texts_as told
     (more c.decimal.ensures
-    (more c.text-told.ensures (texts_as (ap digit_texts c.between.ensures) c.digits.ensures)))
+    (more c.text.ensures (texts_as (ap digit_texts c.between.ensures) c.digits.ensures)))
 
-pub returns : goal.returns
-returns c =
+pub returns-else-first-end : goal.returns-else-first-end
+returns-else-first-end c =
     let a = c.args in
     let told = span_none a.before.now a.after.now a.from c.smaller-end.ensures c.first_changed-first.ensures
     c.if-first-end.false in
-    texts_as told (one c.text.ensures)
+    texts_as told (one c.text-else-first-end.ensures)

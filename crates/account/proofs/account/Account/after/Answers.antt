@@ -18,5 +18,5 @@ returns c =
     let passed = drops-passed a.self a.c.dropped _ _ c.plus.ensures c.plus-2.ensures in
     record {
       nothing = λ waits. absurd (false≢true (sym due ∙ waits));
-      line = λ _. frame_added passed c.line_at-line.ensures c.with_line.ensures;
+      line = λ _. frame_added passed c.from.ensures c.line_at-line.ensures c.with_line.ensures;
     }

@@ -10,6 +10,6 @@ pub returns-in_default : goal.returns-in_default
 returns-in_default c =
     record {
       goes_on = λ e. absurd (c.in_default.not-Unfinished e);
-      ends = λ _. frame_added refl c.line_at-line.ensures
+      ends = λ _. frame_added refl c.from.ensures c.line_at-line.ensures
           c.with_line.ensures;
     }

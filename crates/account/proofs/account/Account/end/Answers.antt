@@ -8,7 +8,7 @@ pub returns : goal.returns
 returns c =
     let line = c.end-line in
     let a = c.args in
-    let adds : List ℕ → Type 0 = λ s. TextAdded a.self.lines s a.output.now c.text.result c.text.new.buffer in
+    let adds : List ℕ → Type 0 = λ s. TextAdded a.output.now s c.text.new.self in
     record {
       text = line_text line.result;
       says = line.ensures;

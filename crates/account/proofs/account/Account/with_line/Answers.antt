@@ -6,9 +6,9 @@ use Rattle.account.proofs.account.Account.with_line.Goals as goal
 
 pub returns : goal.returns
 returns c =
-    let text = c.text-self in
+    let text = c.text in
     let a = c.args in
-    let adds : List ℕ → Type 0 = λ s. TextAdded a.self.lines s a.output.now text.result text.new.buffer in
+    let adds : List ℕ → Type 0 = λ s. TextAdded a.output.now s text.new.self in
     record {
       passes = c.plus-2.ensures ∙ ap (λ (n : ℕ). sum n a.length) c.plus.ensures;
       drops = refl;

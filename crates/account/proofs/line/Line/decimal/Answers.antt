@@ -6,7 +6,7 @@ use Rattle.account.proofs.line.Line.decimal.Goals as goal
 pub text-requires : goal.text-requires
 text-requires c =
     let d = c.decimal-count in
-    record { bytes_len = omega arith; text_bound = omega (arith, twenty_digits c.args.n d.result (omega arith) d.ensures.len) }
+    omega (arith, twenty_digits c.args.n d.result (omega arith) d.ensures.len)
 
 pub returns : goal.returns
 returns c =

@@ -9,5 +9,5 @@ returns c =
     record {
       dropped_text = dropped.text;
       is-dropped = dropped.is-decimal;
-      is = from_empty c.empty.ensures.count_value whole;
+      is = from_empty c.empty.ensures whole;
     }

@@ -14,5 +14,5 @@ returns c =
       outcome_text = outcome.text;
       is-place = place.is-decimal;
       is-outcome = outcome.is-decimal;
-      is = from_empty c.empty.ensures.count_value whole;
+      is = from_empty c.empty.ensures whole;
     }

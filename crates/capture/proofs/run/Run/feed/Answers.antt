@@ -10,7 +10,7 @@ returns-then-left-eq0 c =
     let a = c.args in
     let left = c.behind-left.ensures ∙ ap (drop a.self.unfed.at) c.front.ensures in
     let none = ap length left ∙ length-left a.self.unfed.at a.self.unfed.end a.input.now in
-    record { feeds = λ h. absurd (omega (arith, none)); reads = λ _. (c.read.ensures, (refl, refl)) }
+    record { feeds = λ h. absurd (omega (arith, none)); reads = λ _. (c.read.ensures, refl) }
 
 pub returns : goal.returns
 returns c =

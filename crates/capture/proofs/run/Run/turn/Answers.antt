@@ -1,12 +1,13 @@
 -- `capture::run::Run::turn` meets its contract: a check has its own, and so has each stage. Assumes nothing.
-use Rattle.std.proofs.Common.{◌≡◌, ℕ, Bool, true, false, List, sym, refl, ◌∙◌, subst}
+use Rattle.std.proofs.Common.{◌≡◌, ℕ, Bool, true, false, List, sym, refl, ◌∙◌, subst, ⊎_elim}
 use Rattle.controller.specs.Records.{is_checking}
+use Rattle.text.specs.declared.output.Output.{Output}
 use Rattle.capture.specs.declared.run.Run.{Run}
 use Rattle.capture.specs.declared.stage.Stage.{Stage}
 use Rattle.capture.specs.Runs.{Turned}
 use Rattle.capture.proofs.run.Run.turn.Goals as goal
 
-module _ (run : Run) (input output area : List ℕ) (r : Run) (input' after area' : List ℕ) where
+module _ (run : Run) (input : List ℕ) (output : Output) (area : List ℕ) (r : Run) (input' : List ℕ) (after : Output) (area' : List ℕ) where
   abbrev Turns : Bool → Stage → Type 0
   Turns b s = Turned b s run input output area r input' after area'
 
@@ -37,10 +38,8 @@ returns-in-Quiet c =
 
 pub returns-in-Ended : goal.returns-in-Ended
 returns-in-Ended c =
-    in-stage c.args.self c.args.input.now c.args.output.now c.args.area.now _ _ _ _ _ (sym c.is_checking.ensures ∙ c.if-is_checking.false)
-    c.in-Ended.is (refl, (refl, (refl, refl)))
-
-pub returns-in-ReadFailed : goal.returns-in-ReadFailed
-returns-in-ReadFailed c =
-    in-stage c.args.self c.args.input.now c.args.output.now c.args.area.now _ _ _ _ _ (sym c.is_checking.ensures ∙ c.if-is_checking.false)
-    c.in-ReadFailed.is (refl, (refl, (refl, refl)))
+    let none = sym c.is_checking.ensures ∙ c.if-is_checking.false in
+    ⊎_elim
+    (λ is. in-stage c.args.self c.args.input.now c.args.output.now c.args.area.now _ _ _ _ _ none is (refl, (refl, (refl, refl))))
+    (λ is. in-stage c.args.self c.args.input.now c.args.output.now c.args.area.now _ _ _ _ _ none is (refl, (refl, (refl, refl))))
+    c.in-Ended.is

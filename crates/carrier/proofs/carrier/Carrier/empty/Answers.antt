@@ -2,4 +2,4 @@
 use Rattle.carrier.proofs.carrier.Carrier.empty.Goals as goal
 
 pub returns : goal.returns
-returns c = simp (c.empty.ensures, c.empty-2.ensures)
+returns c = simp c.empty.ensures

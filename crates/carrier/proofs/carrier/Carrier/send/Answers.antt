@@ -1,42 +1,39 @@
 -- `carrier::carrier::Carrier::send` meets its contract. Assumes nothing.
-use mathlib.Core.Path.{sym, ap, ◌∙◌}
+use Rattle.std.proofs.Common.{◌≡◌, ℕ, List, sym, ap, ◌∙◌, ap₂, ⊎_elim, Option, unwrap_or}
+use Rattle.link.specs.declared.frame.Frame.{Frame}
+use Rattle.link.specs.declared.link.Link.{Link}
+use Rattle.link.specs.declared.script.Letter.{Letter}
+use Rattle.link.specs.declared.script.Letter.TheVariants.{Pass, Silence}
 use Rattle.link.specs.declared.script.Script.{Script}
-use Rattle.carrier.specs.Sending.{losing, passing, repeating}
+use Rattle.link.specs.Scripts.{letter_of, after_sending}
+use Rattle.carrier.specs.Sending.{by_letter, sending}
 use Rattle.carrier.proofs.Carrying.{carries_as, carries-both}
-use Rattle.carrier.proofs.Letters.{loses, repeats, passes}
 use Rattle.carrier.proofs.carrier.Carrier.send.Goals as goal
 
-pub returns-then-letter-eq-LOSE : goal.returns-then-letter-eq-LOSE
-returns-then-letter-eq-LOSE c =
-    let a = c.args in
-    let l = a.self.link in
-    let m = a.memory.now in
-    let letter = sym c.next-letter.ensures in
-    carries_as
-    (ap (λ (s : Script). losing l s m a.frame) c.after_sending-self.ensures
-    ∙ loses l a.self.script m a.frame a.letters.now (letter ∙ c.if-letter-eq-LOSE.true))
-    (c.lose.ensures m)
+-- what the letter does, and what is left of the script behind it
+by : {letter said : Letter} {next : Option Letter} (l : Link) (s left : Script) (m : List ℕ) (f : Frame) (letters : List ℕ)
+    → said ≡ letter → said ≡ unwrap_or next Pass → next ≡ letter_of s letters → left ≡ after_sending s letters
+    → by_letter letter l left m f ≡ sending l s m f letters
+unfolding sending
+by l s left m f letters is said next e =
+    ap₂ (λ (x : Letter) (t : Script). by_letter x l t m f) (sym is ∙ said ∙ ap (λ (o : Option Letter). unwrap_or o Pass) next) e
 
-pub returns-then-letter-eq-REPEAT : goal.returns-then-letter-eq-REPEAT
-returns-then-letter-eq-REPEAT c =
+pub returns-in-Lose : goal.returns-in-Lose
+returns-in-Lose c =
     let a = c.args in
-    let l = a.self.link in
-    let m = a.memory.now in
-    let letter = sym c.next-letter.ensures in
-    carries_as
-    (ap (λ (s : Script). repeating l s m a.frame) c.after_sending-self.ensures
-    ∙ repeats l a.self.script m a.frame a.letters.now (λ e. c.if-letter-eq-LOSE.false (sym letter ∙ e))
-    (letter ∙ c.if-letter-eq-REPEAT.true))
-    (carries-both l _ m a.frame c.pass-one.ensures c.pass.ensures)
+    carries_as (by a.self.link a.self.script _ a.memory.now a.frame a.letters.now c.in-Lose.is c.unwrap_or-letter.ensures c.next.ensures
+    c.after_sending-self.ensures) (c.lose.ensures a.memory.now)
 
-pub returns : goal.returns
-returns c =
+pub returns-in-Repeat : goal.returns-in-Repeat
+returns-in-Repeat c =
     let a = c.args in
-    let l = a.self.link in
-    let m = a.memory.now in
-    let letter = c.next-letter.ensures in
-    carries_as
-    (ap (λ (s : Script). passing l s m a.frame) c.after_sending-self.ensures
-    ∙ passes l a.self.script m a.frame a.letters.now (λ e. c.if-letter-eq-LOSE.false (letter ∙ e))
-    (λ e. c.if-letter-eq-REPEAT.false (letter ∙ e)))
-    c.pass-2.ensures
+    carries_as (by a.self.link a.self.script _ a.memory.now a.frame a.letters.now c.in-Repeat.is c.unwrap_or-letter.ensures c.next.ensures
+    c.after_sending-self.ensures) (carries-both a.self.link _ a.memory.now a.frame c.pass.ensures c.pass-in-Repeat.ensures)
+
+pub returns-in-Pass : goal.returns-in-Pass
+returns-in-Pass c =
+    let a = c.args in
+    let on : (letter : Letter) → c.unwrap_or-letter.result ≡ letter → by_letter letter a.self.link c.after_sending-self.result a.memory.now a.frame
+    ≡ sending a.self.link a.self.script a.memory.now a.frame a.letters.now =
+    λ letter is. by a.self.link a.self.script _ a.memory.now a.frame a.letters.now is c.unwrap_or-letter.ensures c.next.ensures c.after_sending-self.ensures in
+    carries_as (⊎_elim (λ is. on Pass is) (λ is. on Silence is) c.in-Pass.is) c.pass-in-Pass.ensures

@@ -1,25 +1,27 @@
 -- `desk::desk::Desk::call` meets its contract. Assumes nothing.
-use mathlib.Core.Path.{refl, ap, ◌∙◌}
+use mathlib.Core.Path.{◌≡◌, refl, ap, ◌∙◌}
 use mathlib.Core.List.{List}
 use Prim.Native.Nat.{ℕ}
-use borrow.Author.Tests.{eq-eqb, ne_eqb}
+use native.Mathlib.Omega.{arith}
+use borrow.Author.Tests.{ne_eqb}
 use Rattle.controller.specs.Calls.{CallLeaves}
 use Rattle.desk.specs.Effects.{feed_name, fed_lent, room_left, area_left}
 use Rattle.desk.specs.Obeying.{controlled, called_effect}
 use Rattle.desk.proofs.Tellings.{told_as}
+use Rattle.desk.proofs.Doings.{done-told}
 use Rattle.desk.proofs.desk.Desk.call.Goals as goal
 
-pub returns-then-phrase-eq-OPEN : goal.returns-then-phrase-eq-OPEN
+pub returns-in-7 : goal.returns-in-7
 unfolding controlled
-returns-then-phrase-eq-OPEN c = λ image. simp (eq-eqb _ _ c.if-phrase-eq-OPEN.true) (record { tells = c.open.ensures; leaves-room = refl; leaves-area = refl; leaves-image = refl })
+returns-in-7 c = λ image. simp (c.in-7.is) (done-told c.open.ensures)
 
-pub returns-then-phrase-eq-FEED : goal.returns-then-phrase-eq-FEED
+pub returns-in-8 : goal.returns-in-8
 unfolding controlled
-returns-then-phrase-eq-FEED c =
+returns-in-8 c =
     let a = c.args in
     let e = ap (λ (s : List ℕ). fed_lent a.self s a.room.now a.area.now) c.front-fed.ensures in
     let f = c.feed.ensures in
-    λ image. simp (ne_eqb _ _ c.if-phrase-eq-OPEN.false, eq-eqb _ _ c.if-phrase-eq-FEED.true)
+    λ image. simp (c.in-8.is)
     (record {
       tells = told_as (ap (λ (x : CallLeaves). (called_effect a.self a.number a.phrase a.bytes.now a.room.now a.area.now image feed_name x).desk) e)
           (ap (λ (x : CallLeaves). (called_effect a.self a.number a.phrase a.bytes.now a.room.now a.area.now image feed_name x).texts) e) f.tells;
@@ -28,10 +30,15 @@ returns-then-phrase-eq-FEED c =
       leaves-image = refl;
     })
 
-pub returns-then-phrase-eq-QUIET : goal.returns-then-phrase-eq-QUIET
+pub returns-in-9 : goal.returns-in-9
 unfolding controlled
-returns-then-phrase-eq-QUIET c = λ image. let f = c.quiet.ensures in simp (ne_eqb _ _ c.if-phrase-eq-OPEN.false, ne_eqb _ _ c.if-phrase-eq-FEED.false, eq-eqb _ _ c.if-phrase-eq-QUIET.true) (record { tells = f.tells; leaves-room = f.leaves-room; leaves-area = f.leaves-area; leaves-image = refl })
+returns-in-9 c = λ image. let f = c.quiet.ensures in simp (c.in-9.is) (record { tells = f.tells; leaves-room = f.leaves-room; leaves-area = f.leaves-area; leaves-image = refl })
 
-pub returns : goal.returns
+pub returns-in_default : goal.returns-in_default
 unfolding controlled
-returns c = λ image. simp (ne_eqb _ _ c.if-phrase-eq-OPEN.false, ne_eqb _ _ c.if-phrase-eq-FEED.false, ne_eqb _ _ c.if-phrase-eq-QUIET.false) (c.watch.ensures image)
+returns-in_default c =
+    let command = c.args.phrase.command in
+    let no_open : command ≡ 7 → ⊥ = λ e. omega arith in
+    let no_feed : command ≡ 8 → ⊥ = λ e. omega arith in
+    let no_quiet : command ≡ 9 → ⊥ = λ e. omega arith in
+    λ image. simp (ne_eqb _ _ no_open, ne_eqb _ _ no_feed, ne_eqb _ _ no_quiet) (c.watch.ensures image)

@@ -15,4 +15,4 @@ returns c =
     let e = ap₂ (λ (k : List ℕ) (r : List ℕ). line k r c.front-3.result.now c.front-4.result.now) c.front.ensures c.front-2.ensures in
     let f = ap₂ (λ (l : List ℕ) (s : List ℕ). line (take a.n a.kept.now) (take a.n a.room.now) l s) c.front-3.ensures c.front-4.ensures in
     told_as refl (e ∙ f)
-    (told-behind (c.begun-begun.ensures then c.called-line.ensures) c.with_record.ensures)
+    (told-behind (c.begun.ensures then c.called.ensures) c.with_record.ensures)

@@ -3,7 +3,8 @@ use mathlib.Core.Path.{ap}
 use mathlib.Core.List.{[], ◌∷◌, ◌++◌}
 use Rattle.text.specs.Ascii.{ascii}
 use Rattle.text.specs.Decimals.{decimal}
-use Rattle.text.proofs.Texts.{one, ◌then◌}
+use Rattle.text.proofs.Texts.{one_as, ◌then◌}
+use Rattle.commands.specs.Outcomes.{outcome_number}
 use Rattle.answers.specs.Answers.{begun_texts, changed_texts}
 use Rattle.controller.specs.declared.open.Opened.{Opened}
 use Rattle.desk.specs.Desks.{with_record}
@@ -16,5 +17,5 @@ returns c =
     let d = a.self in
     let e = c.open-o.ensures in
     told_as (ap (λ (o : Opened). with_record d o.next) e)
-    (ap (λ (o : Opened). begun_texts a.number (ascii " open ") ++ decimal o.outcome ∷ [] ++ changed_texts d.record o.next) e)
-    (told-behind (c.begun-begun.ensures then one c.decimal-line.ensures) c.with_record.ensures)
+    (ap (λ (o : Opened). begun_texts a.number (ascii " open ") ++ decimal (outcome_number o.outcome) ∷ [] ++ changed_texts d.record o.next) e)
+    (told-behind (c.begun.ensures then one_as (ap decimal c.from.ensures) c.decimal.ensures) c.with_record.ensures)

@@ -4,7 +4,8 @@ use mathlib.Core.List.{[], ◌∷◌, ◌++◌}
 use lib.ListN.{length}
 use Rattle.text.specs.Ascii.{ascii}
 use Rattle.text.specs.Decimals.{decimal}
-use Rattle.text.proofs.Texts.{one, ◌then◌}
+use Rattle.text.proofs.Texts.{one_as, ◌then◌}
+use Rattle.commands.specs.Outcomes.{outcome_number}
 use Rattle.answers.specs.Answers.{begun_texts, sender_changed_texts}
 use Rattle.sender.specs.declared.opening.Opened.{Opened}
 use Rattle.sender.specs.declared.sender.Offer.{Offer}
@@ -22,5 +23,5 @@ returns c =
     let said = ap (λ (o : Offer). opened_sender (offer_of o.channel o.pid o.version o.md5 o.size n)) c.said-offer.ensures in
     let e = made ∙ said in
     told_as (ap (λ (o : Opened). with_sender d o.sender) e)
-    (ap (λ (o : Opened). begun_texts a.number (ascii " sender open ") ++ decimal o.outcome ∷ [] ++ sender_changed_texts d.sender o.sender) e)
-    (told-behind (c.begun-begun.ensures then one c.decimal-line.ensures) c.with_sender.ensures)
+    (ap (λ (o : Opened). begun_texts a.number (ascii " sender open ") ++ decimal (outcome_number o.outcome) ∷ [] ++ sender_changed_texts d.sender o.sender) e)
+    (told-behind (c.begun.ensures then one_as (ap decimal c.from.ensures) c.decimal.ensures) c.with_sender.ensures)

@@ -41,5 +41,5 @@ returns c =
           (ap (λ (p : Portioned). with_record d p.next) call.ensures.value
           ∙ ap₂ (λ (k : ℕ) (s : List ℕ). with_record d (made k s).called.next) e lent-area)
           (given ∙ lent ∙ ap₂ line e lent-area)
-          (told-behind (c.begun-begun.ensures then c.portioned-line.ensures) c.with_record.ensures);
+          (told-behind (c.begun.ensures then c.portioned.ensures) c.with_record.ensures);
     }

@@ -1,11 +1,12 @@
 -- `desk::desk::Desk::request` meets its contract. Assumes nothing.
-use mathlib.Core.Path.{refl, ap, ap₂, ◌∙◌}
+use mathlib.Core.Path.{ap, ap₂, ◌∙◌}
 use mathlib.Core.List.{List}
 use Prim.Native.Nat.{ℕ}
 use lib.ListN.{take}
 use Rattle.text.proofs.Texts.{texts_as, ◌then◌}
 use Rattle.desk.specs.Lent.{left_as}
 use Rattle.sender.specs.Requests.{requested, room_requested}
+use Rattle.commands.specs.Outcomes.{outcome_number}
 use Rattle.answers.specs.Answers.{framed_texts}
 use Rattle.sender.specs.declared.request.Requested.{Requested}
 use Rattle.desk.proofs.desk.Desk.request.Goals as goal
@@ -20,17 +21,15 @@ returns c =
     let left : ℕ → List ℕ = λ (k : ℕ). left_as (room_requested d.sender a.image.now (take k room)) k room in
     let line : ℕ → List (List ℕ) = λ (k : ℕ).
     let x = requested d.sender a.image.now (take k room) in
-    framed_texts x.outcome x.length (take k room) (take k (left k)) in
+    framed_texts (outcome_number x.outcome) x.length (take k room) (take k (left k)) in
     let before = c.front.ensures ∙ c.keep.ensures in
     let after = c.front-2.ensures ∙ ap (take n) call.ensures.room_after in
-    let given = ap (λ (x : Requested). framed_texts x.outcome x.length c.front.result.now c.front-2.result.now) call.ensures.value in
+    let told = ap (λ (k : ℕ). framed_texts k call.result.length c.front.result.now c.front-2.result.now) c.from.ensures in
+    let given = ap (λ (x : Requested). framed_texts (outcome_number x.outcome) x.length c.front.result.now c.front-2.result.now) call.ensures.value in
     let x = requested d.sender a.image.now (take n room) in
-    let lent = ap₂ (λ (k : List ℕ) (s : List ℕ). framed_texts x.outcome x.length k s) before after in
+    let lent = ap₂ (λ (k : List ℕ) (s : List ℕ). framed_texts (outcome_number x.outcome) x.length k s) before after in
     let e = c.smaller-n.ensures in
     record {
-      desk_told = record {
-        leaves = refl;
-        tells = c.begun-begun.ensures then texts_as (given ∙ lent ∙ ap line e) c.framed-self.ensures;
-      };
+      tells = c.begun.ensures then texts_as (told ∙ given ∙ lent ∙ ap line e) c.framed.ensures;
       room_after = call.ensures.room_after ∙ ap left e;
     }

@@ -15,4 +15,4 @@ returns c =
     let e = c.set-after.ensures in
     told_as (ap (with_sender d) e)
     (ap (λ (s : Sender). begun_texts a.number (ascii " sender set") ++ sender_changed_texts d.sender s) e)
-    (told-behind c.begun-begun.ensures c.with_sender.ensures)
+    (told-behind c.begun.ensures c.with_sender.ensures)

@@ -1,5 +1,5 @@
 -- `desk::desk::Desk::show` meets its contract. Assumes nothing.
-use mathlib.Core.Path.{refl, ap}
+use mathlib.Core.Path.{ap}
 use Rattle.text.proofs.Texts.{texts_as, ◌then◌}
 use Rattle.answers.specs.Answers.{changed_texts}
 use Rattle.controller.specs.declared.record.Record.{Record}
@@ -9,4 +9,4 @@ pub returns : goal.returns
 returns c =
     let d = c.args.self in
     let none = ap (λ (r : Record). changed_texts r d.record) c.no_record.ensures in
-    record { leaves = refl; tells = c.begun-begun.ensures then texts_as none c.changed-self.ensures }
+    c.begun.ensures then texts_as none c.changed.ensures

@@ -13,4 +13,4 @@ returns c =
     let d = a.self in
     let e = c.silence-d.ensures in
     told_as (ap (λ (x : Decided). with_sender d x.next) e) (ap (decision_texts d a.number silence_name) e)
-    (told-behind (c.begun-begun.ensures then c.decided-line.ensures) c.with_sender.ensures)
+    (told-behind (c.begun.ensures then c.decided.ensures) c.with_sender.ensures)

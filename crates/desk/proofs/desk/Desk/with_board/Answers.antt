@@ -2,4 +2,4 @@
 use Rattle.desk.proofs.desk.Desk.with_board.Goals as goal
 
 pub returns : goal.returns
-returns c = simp (c.placed-list.ensures, c.said-board.ensures)
+returns c = simp (c.placed-self.ensures, c.said-board.ensures)

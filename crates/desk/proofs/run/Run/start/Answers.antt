@@ -2,4 +2,4 @@
 use Rattle.desk.proofs.run.Run.start.Goals as goal
 
 pub returns : goal.returns
-returns c = simp (c.empty-desk.ensures, c.none-lines.ensures)
+returns c = simp (c.empty.ensures, c.none.ensures)

@@ -1,6 +1,9 @@
 -- `dialogue::run::Run::at_sender` meets its contract. Assumes nothing.
 use mathlib.Core.Path.{ap}
+use Prim.Native.Nat.{ℕ}
+use Rattle.commands.specs.Outcomes.{outcome_number}
 use Rattle.sender.specs.declared.decision.Decided.{Decided}
+use Rattle.text.proofs.Texts.{texts_as}
 use Rattle.transcript.specs.Lines.{at_sender_texts}
 use Rattle.dialogue.specs.Dialogues.{Turn, dialogue_of, preceded}
 use Rattle.dialogue.specs.Turns.{after_decision}
@@ -11,6 +14,6 @@ pub returns : goal.returns
 returns c = λ area.
     let a = c.args in
     let x = dialogue_of a.self a.memory.now area in
-    let follows : Decided → Turn = λ d. preceded (at_sender_texts a.frame d.outcome d.decision)
+    let follows : Decided → Turn = λ d. preceded (at_sender_texts a.frame (outcome_number d.outcome) d.decision)
     (after_decision d x a.image.now a.letters.now) in
-    made_as (ap follows c.hear-d.ensures) (made_told c.at_sender-carrier.ensures (c.decided.ensures area))
+    made_as (ap follows c.hear-d.ensures) (made_told (texts_as (ap (λ (n : ℕ). at_sender_texts a.frame n c.hear-d.result.decision) c.from.ensures) c.at_sender.ensures) (c.decided.ensures area))

@@ -10,5 +10,5 @@ returns c =
     let a = c.args in
     let x = dialogue_of a.self a.memory.now a.area.now in
     made_as (of-portion (λ p room. after_portioned x p room a.image.now a.letters.now) c.check-p.ensures)
-    (made_told c.tell-carrier.ensures
+    (made_told c.tell.ensures
     (made-carrying (with_controller x c.check-p.result.next a.area.now) refl refl refl refl c.answer-self.ensures))

@@ -1,5 +1,6 @@
 -- `dialogue::run::Run::decided` meets its contract. Assumes nothing.
 use mathlib.Core.Path.{refl}
+use Rattle.std.proofs.Common.{⊎_elim}
 use Rattle.sender.specs.declared.decision.Decision.TheVariants.{Nothing, GoOn, SendAgain, NewLeg, Done, GivenUp}
 use Rattle.text.specs.Outputs.{none}
 use Rattle.ends.specs.Ends.{request_sent}
@@ -18,14 +19,8 @@ pub returns-in-GoOn : goal.returns-in-GoOn
 returns-in-GoOn c = λ area.
     let a = c.args in
     let x = dialogue_of a.self a.memory.now area in
-    made_by a.d GoOn x a.image.now a.letters.now c.in-GoOn.is (c.request.ensures area)
-
-pub returns-in-SendAgain : goal.returns-in-SendAgain
-returns-in-SendAgain c = λ area.
-    let a = c.args in
-    let x = dialogue_of a.self a.memory.now area in
-    made_by a.d SendAgain x a.image.now a.letters.now c.in-SendAgain.is
-    (c.request-in-SendAgain.ensures area)
+    ⊎_elim (λ is. made_by a.d GoOn x a.image.now a.letters.now is (c.request.ensures area))
+    (λ is. made_by a.d SendAgain x a.image.now a.letters.now is (c.request.ensures area)) c.in-GoOn.is
 
 pub returns-in-NewLeg : goal.returns-in-NewLeg
 returns-in-NewLeg c = λ area.
@@ -41,14 +36,5 @@ pub returns-in-Done : goal.returns-in-Done
 returns-in-Done c = λ area.
     let a = c.args in
     let x = dialogue_of a.self a.memory.now area in
-    made_by a.d Done x a.image.now a.letters.now c.in-Done.is
-    (made-carrying (ending (with_sender x a.d.next)) refl refl refl refl
-    (record { links = refl; leaves = refl; holds = refl; tells = none }))
-
-pub returns-in-GivenUp : goal.returns-in-GivenUp
-returns-in-GivenUp c = λ area.
-    let a = c.args in
-    let x = dialogue_of a.self a.memory.now area in
-    made_by a.d GivenUp x a.image.now a.letters.now c.in-GivenUp.is
-    (made-carrying (ending (with_sender x a.d.next)) refl refl refl refl
-    (record { links = refl; leaves = refl; holds = refl; tells = none }))
+    let k = made-carrying (ending (with_sender x a.d.next)) refl refl refl refl (record { links = refl; leaves = refl; holds = refl; tells = none }) in
+    ⊎_elim (λ is. made_by a.d Done x a.image.now a.letters.now is k) (λ is. made_by a.d GivenUp x a.image.now a.letters.now is k) c.in-Done.is

@@ -7,13 +7,12 @@ use Rattle.dialogue.proofs.run.Run.end.Goals as goal
 pub returns : goal.returns
 returns c =
     record {
-      all = c.area_end.result;
+      all = c.area_end.new.output;
       tells =
-          c.cleared-carrier.ensures.tells
+          c.cleared.ensures.tells
           then
-          (texts_as (ap sender_end_texts c.is_done.ensures) c.sender_end-sender.ensures
+          (texts_as (ap sender_end_texts c.is_done.ensures) c.sender_end.ensures
           then
-          (c.controller_end-controller.ensures then texts_as (ap area_end_texts c.begins.ensures)
-          c.area_end.ensures));
+          (c.controller_end.ensures then texts_as (ap area_end_texts c.begins.ensures) c.area_end.ensures));
       flushes = c.flush.ensures;
     }

@@ -12,4 +12,4 @@ returns c = λ area.
     let a = c.args in
     let x = dialogue_of a.self a.memory.now area in
     let frame : Frame → Carried = λ f. sending x.link x.script x.memory f a.letters.now in
-    made-carrying x refl refl refl refl (carries_as (ap frame c.request.ensures) c.send-self.ensures)
+    made-carrying x refl refl refl refl (carries_as (ap frame c.request-request.ensures) c.send-self.ensures)

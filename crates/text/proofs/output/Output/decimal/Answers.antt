@@ -12,5 +12,5 @@ returns c =
     let a = c.args in
     let d = c.decimal-count in
     let says = is-decimal a.n d.result d.new.out d.ensures.in_bounds.1 d.ensures.len d.ensures.digits in
-    let adds : List ℕ → Type 0 = λ s. TextAdded a.self s a.buffer.now c.text.result c.text.new.buffer in
+    let adds : List ℕ → Type 0 = λ s. TextAdded a.self.now s c.text.new.self in
     subst adds (is_the_decimal _ _ says) c.text.ensures

@@ -1,8 +1,0 @@
--- `console::session` is safe and ends. Assumes nothing.
-use Rattle.console.proofs.session.Given as goal
-
-abbrev pub invariant-loop-turns : goal.invariant-loop-turns
-invariant-loop-turns l = Unit {0}
-
-abbrev pub decreases-loop-turns : goal.decreases-loop-turns
-decreases-loop-turns l = l.turns

@@ -1,7 +1,0 @@
--- `link::script::letter_at` meets its contract. Assumes nothing.
-use Rattle.std.proofs.Common.{sym}
-use lib.ListN.{get_or-eq_default}
-use Rattle.link.proofs.script.letter_at.Goals as goal
-
-pub returns : goal.returns
-returns c = sym (get_or-eq_default c.args.letters.now 0 c.if-at-letters.false)

@@ -1,9 +1,0 @@
--- `requests::request::version_in` meets its contract. Assumes nothing.
-use mathlib.Core.Path.{◌∙◌, refl}
-use native.Mathlib.Omega.{arith}
-use Rattle.sequences.specs.Padding.{zeros}
-use Rattle.sequences.proofs.Places.{copied-out}
-use Rattle.requests.proofs.request.version_in.Goals as goal
-
-pub returns : goal.returns
-returns c = c.copy_out.ensures ∙ copied-out c.args.d.now (zeros 3) 9 3 refl (omega arith)

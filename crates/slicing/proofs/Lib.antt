@@ -1,0 +1,3 @@
+-- What belongs to no one function.
+mod Blocks
+pub mod UsedUp

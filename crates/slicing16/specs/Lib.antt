@@ -1,2 +1,0 @@
--- What the contracts of `slicing16` and `crc16` cite.
-pub mod Kinds
