@@ -19,10 +19,8 @@ use desk::run::Run;
 use lines::lines::INPUT;
 use phrases::phrase::BYTES;
 use std::io::Stdin;
+use text::complaint::say;
 use text::output::Output;
-
-// Standard error's descriptor.
-const STDERR: i32 = 2;
 
 fn main(rt: HostRuntime) {
     let mut input = io::large_buffer();
@@ -76,14 +74,9 @@ fn session(
 fn finish(run: Run, output: &mut Output) {
     output.flush();
     if output.failed {
-        complain(b"console: cannot write to standard output\n");
+        say(b"console: cannot write to standard output\n");
     }
     if run.lines.failed {
-        complain(b"console: cannot read standard input\n");
+        say(b"console: cannot read standard input\n");
     }
-}
-
-// Where standard error fails too there is nobody to tell.
-fn complain(message: &[u8]) {
-    io::write_all(STDERR, message);
 }

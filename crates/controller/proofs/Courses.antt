@@ -9,10 +9,8 @@ use native.Mathlib.Nat.{suc-mul}
 use lib.Dec.{eqb}
 use lib.ListN.{length, take, drop, replicate}
 use Rattle.crc.specs.Crc.{update, finish, crc32}
-use Rattle.fronts.specs.Frame.{encode}
 use Rattle.frames.specs.LiveReading.{Call, fed_by}
 use Rattle.sequences.proofs.Orders.{lt_or_le}
-use Rattle.replies.specs.Replies.{reply_frame}
 use Rattle.image.specs.declared.check.Check.{Check}
 use Rattle.image.specs.declared.check.Verdict.{Verdict}
 use Rattle.image.specs.declared.check.Verdict.TheVariants.{Unfinished, Right, Wrong}
@@ -35,6 +33,7 @@ use Rattle.commands.specs.Outcomes.{same_outcome}
 use Rattle.controller.specs.Records.{unlawful_record, is_checking}
 use Rattle.controller.specs.Calls.{refusal_of, reply_in, called_by}
 use Rattle.controller.specs.Portions.{PortionLeaves, checked_portion, portion_call, CallKind, line_call, portion}
+use Rattle.controller.specs.Demand3.{frames_of}
 use Rattle.controller.specs.CheckCourse.{Later, lends_enough, largest, bytes_asked, Course, course_from, course_after, is_given}
 use Rattle.controller.specs.CheckCourse.{course, CheckEnds, EndsInPortions}
 use Rattle.controller.proofs.Refusals.{lawful_record, record_accepted, Accepted, accepted-of}
@@ -105,7 +104,7 @@ module _ (r : Record) (ok : unlawful_record r ≡ false) (runs : is_checking r �
     pub read : x.read ≡ left
     pub stopped : is_checking x.at ≡ false
     pub verdict : Same → x.verdict ≡ cond (will_say t area) Right Wrong
-    pub reply : Same → x.replies ≡ encode (reply_frame 0xFE (due_of s area).reply) ∷ []
+    pub reply : Same → x.replies ≡ frames_of 0xFE (due_of s area).reply
     pub session : Same → x.at.session ≡ with_transfer s (due_of s area).transfer
 
   going-begun : Going 0 (course_from r)
@@ -240,7 +239,7 @@ module _ (r : Record) (ok : unlawful_record r ≡ false) (runs : is_checking r �
               verdict = λ i. ap (λ (b : Bool). cond b Right Wrong) (says_here i);
               reply = λ i.
                   ap₂ ◌++◌ g.no-reply (verdict-reply u.transfer right c.room a.wide)
-                  ∙ ap (λ (d : Step). encode (reply_frame 0xFE d.reply) ∷ []) (ended i);
+                  ∙ ap (λ (d : Step). frames_of 0xFE d.reply) (ended i);
               session = λ i. ap (λ (d : Step). with_transfer s d.transfer) (ended i);
             })
 

@@ -3,6 +3,7 @@ use mathlib.Core.Path.{◌≡◌, refl, sym, ap, ap₂, ◌∙◌, subst}
 use mathlib.Core.Bool.{Bool, true, false, cond}
 use mathlib.Core.Logic.{◌↔◌, ⊎_elim}
 use mathlib.Core.List.{List, [], ◌∷◌}
+use Rattle.std.specs.Prelude.{Some, IsSomeAnd}
 use Prim.Native.Nat.{ℕ, ◌≤◌, ◌<◌}
 use native.Mathlib.Omega.{arith}
 use borrow.Author.Tests.{eqb-true, eq-eqb}
@@ -44,7 +45,7 @@ use Rattle.controller.specs.CheckCourse.{Later, lends_enough, bytes_asked, LendS
 use Rattle.controller.specs.EndRequest.{success_frame, Starts, NotYet, AsInOneGo, EndRequestCalls, EndRequestMeetsCheck}
 use Rattle.controller.proofs.Refusals.{lawful_record, record_accepted, accepted-of}
 use Rattle.controller.proofs.Steps.{reply_in_lem, calling_accepted}
-use Rattle.controller.proofs.Settling.{ended-reply}
+use Rattle.controller.proofs.Settling.{ended-reply, ended-one}
 use Rattle.controller.proofs.RunningChecks.{while_checking, frame-meets-check}
 use Rattle.controller.proofs.Courses.{AllSame, Done, stands_at, any_memory}
 use Rattle.commands.proofs.Outcomes.{is-same}
@@ -66,10 +67,10 @@ state-shows k channel m n e = ap (λ (b : List (List ℕ)). get_or (first b) 7 0
 
 -- the reply of a state, in the room
 state_in : (channel state : ℕ) (room : List ℕ) → min_room ≤ length room → let d = padded max_reply (reply_state channel state) in
-    reply_in (reply_size_of true 0xFE d room) (reply_room_of true 0xFE d room) ≡ state_frame channel state ∷ []
+    reply_in (reply_size_of (Some d) 0xFE room) (reply_room_of (Some d) 0xFE room) ≡ state_frame channel state ∷ []
 state_in channel state room wide =
     let d = padded max_reply (reply_state channel state) in
-    reply_in_lem true 0xFE d room (λ _. reply-frames.fe-replied) wide
+    reply_in_lem (Some d) 0xFE room (λ _. reply-frames.fe-replied) wide
     ∙ ap (λ (f : Frame). encode f ∷ []) (reply-frames.fe channel state)
 
 module _ (call : Call) (untaken : List ℕ) (r : Record) (channel : ℕ) (room area : List ℕ)
@@ -95,7 +96,7 @@ module _ (call : Call) (untaken : List ℕ) (r : Record) (channel : ℕ) (room a
   answer_is y =
       record {
         called = answered_call f y room;
-        room = reply_room_of y.replies f.frame.command y.reply room;
+        room = reply_room_of y.reply f.frame.command room;
         area = area_after r.session f.frame area;
       }
 
@@ -134,8 +135,8 @@ module _ (call : Call) (untaken : List ℕ) (r : Record) (channel : ℕ) (room a
   replied-is : (n : ℕ) → a ≡ stepped s (replied t (reply_state channel n)) → reply x ≡ state_frame channel n ∷ []
   replied-is n e =
       ap reply (call-is ∙ ap answer_is e)
-      ∙ ap (λ (c : ℕ). reply_in (reply_size_of true c (padded max_reply (reply_state channel n)) room)
-      (reply_room_of true c (padded max_reply (reply_state channel n)) room)) is.command
+      ∙ ap (λ (c : ℕ). reply_in (reply_size_of (Some (padded max_reply (reply_state channel n))) c room)
+      (reply_room_of (Some (padded max_reply (reply_state channel n))) c room)) is.command
       ∙ state_in channel n room wide
 
   at_once : reaches_crc t channel ≡ false → (is_checking x.called.next ≡ false) ×
@@ -250,14 +251,15 @@ module _ (call : Call) (untaken : List ℕ) (r : Record) (channel : ℕ) (room a
         done =
             (stands_at x.called.next lawful-next runs area Unit cs (lent_same cs same)).finally (omega (arith, h, asked_is, all-unread))
 
-        reply-is : y.replies ≡ encode (reply_frame 0xFE (in_one_go s f.frame area).reply) ∷ []
-        reply-is = done.reply tt ∙ ap (λ (w : Answer). encode (reply_frame 0xFE w.reply) ∷ []) (sym one-go)
+        reply-is : IsSomeAnd (in_one_go s f.frame area).reply (λ d. y.replies ≡ encode (reply_frame 0xFE d) ∷ [])
+        reply-is =
+            subst (λ (w : Answer). IsSomeAnd w.reply (λ d. y.replies ≡ encode (reply_frame 0xFE d) ∷ [])) (sym one-go)
+            (ended-one x.called.next.session.transfer (will_say x.called.next.session.transfer area) y.replies (done.reply tt))
 
         state-is : y.replies ≡ state_frame t.leg.channel (verdict_state (cond (right_crc t area) Right Wrong)) ∷ []
         state-is =
             done.reply tt
-            ∙ ap (λ (l : List ℕ). l ∷ [])
-            (ended-reply x.called.next.session.transfer (will_say x.called.next.session.transfer area))
+            ∙ ended-reply x.called.next.session.transfer (will_say x.called.next.session.transfer area)
             ∙ ap₂ (λ (k : ℕ) (b : Bool). state_frame k (verdict_state (cond b Right Wrong)) ∷ [])
             (ap (λ (u : Session). u.transfer.leg.channel) session-is) says_is
 

@@ -2,13 +2,13 @@
 use mathlib.Core.Path.{◌≡◌, refl, sym, ap, ◌∙◌, subst}
 use mathlib.Core.Bool.{Bool, true, false, cond, ◌&&◌, ◌||◌}
 use mathlib.Core.Logic.{⊎_elim}
-use mathlib.Core.List.{List, [], ◌∷◌, ◌++◌, append-nil, append_assoc}
+use mathlib.Core.List.{List, [], ◌++◌, append-nil, append_assoc}
 use Prim.Native.Nat.{ℕ, ◌+◌, ◌≤◌, ◌<◌}
 use native.Mathlib.Omega.{arith}
 use borrow.Author.Tests.{eq-eqb}
 use lib.ListN.{length, drop, length-take}
 use lib.Seq.{drop-nil}
-use Rattle.fronts.specs.Frame.{max_frame, Frame, encode}
+use Rattle.fronts.specs.Frame.{max_frame, Frame}
 use Rattle.sequences.specs.Padding.{padded}
 use Rattle.frames.specs.Finished.{finished}
 use Rattle.frames.specs.LiveReading.{CallResult, Call, feeding, quiet, called, due}
@@ -16,7 +16,6 @@ use Rattle.sequences.proofs.Orders.{lt_or_le}
 use Rattle.sequences.proofs.Conditionals.{of-both}
 use Rattle.frames.proofs.Calls.{call-keeps, held-again}
 use Rattle.frames.proofs.Remains.{Remains, state_after, replies_of, remains-called}
-use Rattle.replies.specs.Replies.{reply_frame}
 use Rattle.transfer.specs.declared.state.Transfer.{Transfer}
 use Rattle.transfer.specs.declared.state.Step.{Step}
 use Rattle.transfer.specs.Transfers.{with_check}
@@ -34,7 +33,7 @@ use Rattle.controller.specs.declared.record.Record.{Record}
 use Rattle.commands.specs.Outcomes.{same_outcome}
 use Rattle.controller.specs.Calls.{min_room, refusal_of}
 use Rattle.controller.specs.Portions.{PortionLeaves, refused_portion, checked_portion, portion_call, CallKind, line_call, portion}
-use Rattle.controller.specs.Demand3.{State, step_to, reply_to, Lent, own, other, Listed, Place, lent, checking, is_accepted}
+use Rattle.controller.specs.Demand3.{State, step_to, frames_of, reply_to, Lent, own, other, Listed, Place, lent, checking, is_accepted}
 use Rattle.controller.specs.Demand3.{is_quiet, after_portion, next, Allowed}
 use Rattle.controller.proofs.Refusals.{accepted-of}
 use Rattle.controller.proofs.Steps.{state_of, held_of, given_state, given_reply, landed, on_own, next-refused, next-landed}
@@ -97,8 +96,8 @@ module _ (s : State) where
       s) e
 
   running-due : s.session.transfer.check.running ≡ true
-      → due_reply s ≡ encode (reply_frame 0xFE (due_of s.session s.area).reply) ∷ []
-  running-due e = ap (λ (x : Bool). cond x (encode (reply_frame 0xFE (due_of s.session s.area).reply) ∷ []) []) e
+      → due_reply s ≡ frames_of 0xFE (due_of s.session s.area).reply
+  running-due e = ap (λ (x : Bool). cond x (frames_of 0xFE (due_of s.session s.area).reply) []) e
 
   pub still_settled : s.session.transfer.check.running ≡ false → settled_state s ≡ s
   still_settled e =
@@ -106,7 +105,7 @@ module _ (s : State) where
       s) e
 
   pub still-due : s.session.transfer.check.running ≡ false → due_reply s ≡ []
-  still-due e = ap (λ (x : Bool). cond x (encode (reply_frame 0xFE (due_of s.session s.area).reply) ∷ []) []) e
+  still-due e = ap (λ (x : Bool). cond x (frames_of 0xFE (due_of s.session s.area).reply) []) e
 
 module _ (s₀ : State) (fs : List Frame) (n : ℕ) where
   abbrev Left : List (List ℕ) → ℕ → State → List ℕ → List ℕ → Type 0
@@ -213,7 +212,7 @@ module _ (s₀ : State) (fs : List Frame) (n : ℕ) where
         let u : State = record { session = with_transfer s t; area = p.area } in
         subst Keeps (sym (after_is _ x.is))
         (moved_keeps p t [] k x.lawful-on
-        (running-due (state_of p) runs ∙ ap (λ (y : Step). encode (reply_frame 0xFE y.reply) ∷ []) (sym x.same-due)
+        (running-due (state_of p) runs ∙ ap (λ (y : Step). frames_of 0xFE y.reply) (sym x.same-due)
         ∙ sym (running-due u runs))
         (running_settled (state_of p) runs ∙ ap (λ (y : Step). record { session = with_transfer s y.transfer; area = p.area })
         (sym x.same-due) ∙ sym (running_settled u runs)))
@@ -224,7 +223,7 @@ module _ (s₀ : State) (fs : List Frame) (n : ℕ) where
         let d = due_of s p.area in
         let still = ended-still s.transfer (will_say s.transfer p.area) in
         let u : State = record { session = with_transfer s d.transfer; area = p.area } in
-        let more = encode (reply_frame 0xFE d.reply) ∷ [] in
+        let more = frames_of 0xFE d.reply in
         let replies = verdict-reply s.transfer (will_say s.transfer p.area) room wide in
         subst Keeps
         (sym (after_is _ x.is
@@ -237,7 +236,7 @@ module _ (s₀ : State) (fs : List Frame) (n : ℕ) where
           quieted = p.quieted;
         }) replies))
         (moved_keeps p d.transfer more k x.lawful-after
-        (running-due (state_of p) runs ∙ sym (ap (λ (y : List (List ℕ)). more ++ y) (still-due u still)))
+        (running-due (state_of p) runs ∙ sym (ap (λ (y : List (List ℕ)). more ++ y) (still-due u still) ∙ append-nil more))
         (running_settled (state_of p) runs ∙ sym (still_settled u still)))
 
     checked-keeps : Keeps after

@@ -2,12 +2,12 @@
 use mathlib.Core.Path.{◌≡◌, refl, sym, ap, ◌∙◌, subst}
 use mathlib.Core.Bool.{Bool, true, false, cond}
 use mathlib.Core.Logic.{⊎_elim}
-use mathlib.Core.List.{List, [], ◌∷◌, ◌++◌}
+use mathlib.Core.List.{List}
 use Prim.Native.Nat.{ℕ, ◌+◌, ◌≤◌, ◌<◌}
 use native.Mathlib.Omega.{arith}
 use borrow.Author.Tests.{ltb-true}
 use lib.Dec.{ltb}
-use lib.ListN.{length, drop}
+use lib.ListN.{length}
 use lib.Seq.{length-slice}
 use Rattle.sequences.proofs.Orders.{lt_or_le}
 use Rattle.sequences.proofs.Conditionals.{of_each}
@@ -25,7 +25,7 @@ use Rattle.commands.specs.declared.outcome.Outcome.{Outcome}
 use Rattle.commands.specs.Outcomes.{accepted, short_room, other_area, rules_broken, no_check_runs, unfinished}
 use Rattle.controller.specs.declared.record.Record.{Record}
 use Rattle.commands.specs.Outcomes.{same_outcome}
-use Rattle.controller.specs.Calls.{refusal_of, reply_size_of}
+use Rattle.controller.specs.Calls.{refusal_of}
 use Rattle.controller.specs.Portions.{refused_portion, checked_portion, portion_call}
 use Rattle.controller.specs.Leaving.{IsRefusal, IsPortionRefusal, Counted, PortionOutcomes, PortionLeaving, Refuses}
 use Rattle.controller.proofs.Refusals.{lawful_record, Accepted, accepted-of, accepts, refusal_is, code-refuses, none-refuses}
@@ -154,14 +154,9 @@ module _ (most : ℕ) (r : Record) (room area : List ℕ) where
               finished = λ _. (
                 ended-none s.transfer (will_say s.transfer area),
                 verdict-reply s.transfer (will_say s.transfer area) room a.wide
-                    ∙ ap (λ (l : List ℕ). l ∷ []) (ended-reply s.transfer (will_say s.transfer area)),
+                    ∙ ended-reply s.transfer (will_say s.transfer area),
               );
-              past_reply = λ _.
-                  verdict-room s.transfer (will_say s.transfer area) room a.wide
-                  ∙ ap (λ (l : List ℕ). l ++ drop
-                  (reply_size_of (ended_fe s.transfer (will_say s.transfer area)).replies 0xFE
-                  (ended_fe s.transfer (will_say s.transfer area)).reply room) room)
-                  (ended-reply s.transfer (will_say s.transfer area));
+              past_reply = λ _. verdict-room s.transfer (will_say s.transfer area) room a.wide;
               counted = λ _ _. subst (Counted most s.transfer area)
                   (accepted-is e _ (finished-by s most area lawful a.size runs h).is) (counts e runs);
               same-list = refl;

@@ -2,6 +2,7 @@
 use mathlib.Core.Path.{◌≡◌, refl, sym, ap, ◌∙◌, subst}
 use mathlib.Core.Bool.{Bool, true, false, not}
 use mathlib.Core.List.{List}
+use Rattle.std.specs.Prelude.{Option}
 use Prim.Native.Nat.{ℕ, ◌≤◌}
 use native.Mathlib.Omega.{arith}
 use lib.Dec.{ltb, eqb}
@@ -67,15 +68,14 @@ finished-leaves call untaken r room memory ok runs = go x.found refl
     go true e =
         let s = r.session in
         let f = finished x.frame in
-        let a = answered s f memory in
         let y = running-same s f memory runs in
         rw e
         (record {
           leaves =
               record {
                 same-session = y.same-session;
-                no-reply = ap (λ (b : Bool). reply_size_of b f.command a.reply room) y.no-reply;
-                same-room = ap (λ (b : Bool). reply_room_of b f.command a.reply room) y.no-reply;
+                no-reply = ap (λ (x : Option (List ℕ)). reply_size_of x f.command room) y.no-reply;
+                same-room = ap (λ (x : Option (List ℕ)). reply_room_of x f.command room) y.no-reply;
                 same_memory = y.same_area;
               };
           lawful-next = record_accepted _

@@ -1,20 +1,21 @@
 -- What one feeding or quiet call of a run makes of the place where the run stands. Assumes nothing.
 use mathlib.Core.Path.{◌≡◌, refl, sym, ap, ap₂, ◌∙◌}
-use mathlib.Core.Bool.{Bool, true, false, cond, ◌&&◌, ◌||◌}
-use mathlib.Core.List.{List, [], ◌∷◌, ◌++◌, append-nil}
+use mathlib.Core.Bool.{Bool, true, false, ◌&&◌, ◌||◌}
+use mathlib.Core.List.{List, [], ◌++◌, append-nil}
+use Rattle.std.specs.Prelude.{Option, None, Some, is_some}
 use Prim.Native.Nat.{ℕ, ◌+◌, ◌≤◌}
 use native.Mathlib.Omega.{arith}
 use borrow.Author.Tests.{ne_eqb}
 use lib.ListN.{length, drop}
 use Rattle.frames.specs.declared.reader.Reader.{Reader}
 use Rattle.frames.specs.declared.reader.Fed.{Fed}
-use Rattle.fronts.specs.Frame.{Frame, encode}
+use Rattle.fronts.specs.Frame.{Frame}
 use Rattle.frames.specs.Finished.{finished}
 use Rattle.frames.specs.LiveReading.{CallResult, Call, feeding, quiet, called, fed_by, held_bytes, holding, handed_back}
 use Rattle.frames.proofs.FinishedFrames.{finished-command}
 use Rattle.frames.proofs.Calls.{call-accepted}
 use Rattle.frames.proofs.Remains.{state_after, replies_of}
-use Rattle.replies.specs.Replies.{reply_frame, has_reply}
+use Rattle.replies.specs.Replies.{has_reply}
 use Rattle.replies.proofs.Replies.{reply-some, reply-front}
 use Rattle.session.specs.declared.answer.Answer.{Answer}
 use Rattle.session.specs.Answering.{answered, area_after}
@@ -27,7 +28,7 @@ use Rattle.controller.specs.Calls.{min_room, refusal_of, CallLeaves, refused_cal
 use Rattle.controller.specs.Calls.{finished_call, called_by}
 use Rattle.controller.specs.Portions.{line_call}
 use Rattle.controller.specs.Demand3.{State, Lent, own, other, Listed, Place, lent, is_accepted, is_quiet, after, next}
-use Rattle.controller.specs.Demand3.{leaves_of}
+use Rattle.controller.specs.Demand3.{frames_of, leaves_of}
 use Rattle.controller.proofs.Refusals.{lawful_record, accepted-of}
 use Rattle.commands.proofs.Outcomes.{same-true}
 
@@ -46,7 +47,7 @@ abbrev pub given_state : State → Frame → State
 given_state s f = record { session = (given s f).session; area = area_after s.session (finished f) s.area }
 
 abbrev pub given_reply : State → Frame → List (List ℕ)
-given_reply s f = cond (given s f).replies (encode (reply_frame f.command (given s f).reply) ∷ []) []
+given_reply s f = frames_of f.command (given s f).reply
 
 -- where a run stands after a call that read c
 abbrev pub landed : CallResult → Bool → Place → Place
@@ -62,11 +63,11 @@ landed c quieted p =
 
 -- ---- the reply in the room
 
-pub reply_in_lem : (replies : Bool) (command : ℕ) (d room : List ℕ) → (replies ≡ true → has_reply command ≡ true) → min_room ≤ length room
-    → reply_in (reply_size_of replies command d room) (reply_room_of replies command d room) ≡ cond replies
-    (encode (reply_frame command d) ∷ []) []
-reply_in_lem false command d room has wide = refl
-reply_in_lem true command d room has wide =
+pub reply_in_lem : (reply : Option (List ℕ)) (command : ℕ) (room : List ℕ) → (is_some reply ≡ true → has_reply command ≡ true)
+    → min_room ≤ length room
+    → reply_in (reply_size_of reply command room) (reply_room_of reply command room) ≡ frames_of command reply
+reply_in_lem None command room has wide = refl
+reply_in_lem (Some d) command room has wide =
     simp (ne_eqb _ 0 (reply-some command d room (has refl) wide), reply-front command d room (has refl) wide)
 
 finish-landed : (c : CallResult) (p : Place) (room : List ℕ) (quieted : Bool) → min_room ≤ length room
@@ -78,7 +79,7 @@ finish-landed c p room quieted wide = go c.found refl
     go true e =
         let a = answered p.at.session (finished c.frame) p.area in
         let has = replied-command p.at.session (finished c.frame) p.area in
-        let y = reply_in_lem a.replies c.frame.command a.reply room
+        let y = reply_in_lem a.reply c.frame.command room
         (λ z. ap has_reply (sym (finished-command c.frame)) ∙ has z) wide in
         simp (e, finished-command c.frame, y)
     go false e = simp e

@@ -1,5 +1,5 @@
 -- One call of feeding or quiet: everything that it gives and leaves, on every outcome. Assumes nothing.
-use Rattle.std.specs.Prelude.{◌≡◌, Bool, cond, not, List, [], ◌∷◌, ℕ, ltb, eqb, length, take}
+use Rattle.std.specs.Prelude.{◌≡◌, cond, not, Option, None, Some, List, [], ◌∷◌, ℕ, ltb, eqb, length, take}
 use Rattle.frames.specs.declared.reader.Reader.{Reader}
 use Rattle.frames.specs.declared.reader.Fed.{Fed}
 use Rattle.frames.specs.LiveReading.{fed, quieted}
@@ -36,22 +36,24 @@ abbrev pub refused_call : Outcome → Record → Called
 refused_call outcome r = record { outcome = outcome; reply_length = 0; taken = 0; dropped = 0; command = 0; data_length = 0; next = r }
 
 -- "A call without a reply .. gives length 0"
-abbrev pub reply_size_of : Bool → ℕ → List ℕ → List ℕ → ℕ
-reply_size_of replies command d room = cond replies (reply_size command d room) 0
+abbrev pub reply_size_of : Option (List ℕ) → ℕ → List ℕ → ℕ
+reply_size_of None command room = 0
+reply_size_of (Some d) command room = reply_size command d room
 
-abbrev pub reply_room_of : Bool → ℕ → List ℕ → List ℕ → List ℕ
-reply_room_of replies command d room = cond replies (reply_room command d room) room
+abbrev pub reply_room_of : Option (List ℕ) → ℕ → List ℕ → List ℕ
+reply_room_of None command room = room
+reply_room_of (Some d) command room = reply_room command d room
 
-pub record ReplyLeft (replies : Bool) (command : ℕ) (d room : List ℕ) (size : ℕ) (after : List ℕ) : Type 0 where
-  pub gives : size ≡ reply_size_of replies command d room
-  pub leaves : after ≡ reply_room_of replies command d room
+pub record ReplyLeft (reply : Option (List ℕ)) (command : ℕ) (room : List ℕ) (size : ℕ) (after : List ℕ) : Type 0 where
+  pub gives : size ≡ reply_size_of reply command room
+  pub leaves : after ≡ reply_room_of reply command room
 
 -- the reading ended at a frame, and the session answers it
 abbrev pub answered_call : Fed → Answer → List ℕ → Called
 answered_call f a room =
     record {
       outcome = a.outcome;
-      reply_length = reply_size_of a.replies f.frame.command a.reply room;
+      reply_length = reply_size_of a.reply f.frame.command room;
       taken = f.taken;
       dropped = f.dropped;
       command = f.frame.command;
@@ -78,7 +80,7 @@ finished_call f s room area =
     cond f.found
     (record {
       called = answered_call f a room;
-      room = reply_room_of a.replies f.frame.command a.reply room;
+      room = reply_room_of a.reply f.frame.command room;
       area = area_after s f.frame area;
     })
     (record { called = waiting_call f s; room = room; area = area })

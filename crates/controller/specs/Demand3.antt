@@ -2,7 +2,7 @@
 -- "Demand 3's list gains the portion calls, refused ones included, and its plain run checks in one go, then zeroes the check's own fields;
 -- its runs start with no check running, finish each before the next feeding or quiet call not refused, and have not ended while one runs".
 -- Assumes nothing.
-use Rattle.std.specs.Prelude.{◌≡◌, Bool, true, false, cond, not, ◌&&◌, ◌||◌, List, [], ◌∷◌, ◌++◌, ℕ, ◌+◌, length, take, drop}
+use Rattle.std.specs.Prelude.{◌≡◌, Bool, true, false, not, Option, None, Some, ◌&&◌, ◌||◌, List, [], ◌∷◌, ◌++◌, ℕ, ◌+◌, length, take, drop}
 use Rattle.sequences.specs.Bytes.{Bytes}
 use Rattle.fronts.specs.Frame.{Frame, encode}
 use Rattle.frames.specs.Finished.{finished}
@@ -38,9 +38,14 @@ answer_to s f = in_one_go s.session (finished f) s.area
 abbrev pub step_to : State → Frame → State
 step_to s f = record { session = (answer_to s f).session; area = (judged s.session (finished f) s.area).area }
 
+-- the reply to a command as the bytes of a frame, where there is one
+abbrev pub frames_of : ℕ → Option (List ℕ) → List (List ℕ)
+frames_of command None = []
+frames_of command (Some d) = encode (reply_frame command d) ∷ []
+
 -- "with outcome 2, 3, 4 or 10 no reply"; F9 has none either
 abbrev pub reply_to : State → Frame → List (List ℕ)
-reply_to s f = cond (answer_to s f).replies (encode (reply_frame f.command (answer_to s f).reply) ∷ []) []
+reply_to s f = frames_of f.command (answer_to s f).reply
 
 abbrev pub plain_run : Record → List ℕ → List Frame → Plain State (List ℕ)
 plain_run r area fs = plain step_to reply_to (record { session = r.session; area = area }) fs

@@ -1,7 +1,7 @@
 -- Demand 2 through calls on the record. Document 02, K5: it "speaks of an end request that does not meet 12, once its check is finished,
 -- nobody else changing the record or image bytes meanwhile; its verdict is that of the check in one go." Premises on the input alone.
 -- Assumes nothing.
-use Rattle.std.specs.Prelude.{◌≡◌, true, false, cond, ◌↔◌, List, [], ◌∷◌, ℕ, ◌≤◌, ◌<◌, ltb, length}
+use Rattle.std.specs.Prelude.{◌≡◌, true, false, cond, ◌↔◌, IsSomeAnd, List, [], ◌∷◌, ℕ, ◌≤◌, ◌<◌, ltb, length}
 use Rattle.frames.specs.declared.finished.FinishedFrame.{FinishedFrame}
 use Rattle.fronts.specs.Frame.{encode}
 use Rattle.frames.specs.LiveReading.{Call, fed_by}
@@ -43,7 +43,7 @@ pub record NotYet (r : Record) (x : Course) : Type 0 where
 pub record AsInOneGo (r : Record) (f : FinishedFrame) (channel : ℕ) (area : List ℕ) (x : Course) : Type 0 where
   pub verdict : x.verdict ≡ cond (right_crc (own_transfer r.session) area) Right Wrong
   pub all_read : x.read ≡ (own_transfer r.session).image.announced
-  pub reply : x.replies ≡ encode (reply_frame 0xFE (in_one_go r.session f area).reply) ∷ []
+  pub reply : IsSomeAnd (in_one_go r.session f area).reply (λ d. x.replies ≡ encode (reply_frame 0xFE d) ∷ [])
   pub session : x.at.session ≡ (in_one_go r.session f area).session
   pub success : (x.replies ≡ success_frame channel ∷ []) ↔ Complete (transfer_on r.session channel) channel area
 

@@ -35,8 +35,8 @@ portioned_by r c size =
 abbrev pub checked_portion : Checked → Record → List ℕ → PortionLeaves
 checked_portion c r room =
     record {
-      called = portioned_by r c (reply_size_of c.replies 0xFE c.reply room);
-      room = reply_room_of c.replies 0xFE c.reply room;
+      called = portioned_by r c (reply_size_of c.reply 0xFE room);
+      room = reply_room_of c.reply 0xFE room;
     }
 
 -- "refuse 9, 6, 5, then 18 when no check runs": 18 is the session's

@@ -92,7 +92,7 @@ fn finish(f: Fed, session: Session, room: &mut [u8], area: &mut [u8]) -> Called
 {
     if f.found {
         let a = session.answer(f.frame, area);
-        let reply_length = write_reply(a.replies, f.frame.command, a.reply, room);
+        let reply_length = write_reply(a.reply, f.frame.command, room);
         return Called {
             outcome: a.outcome,
             reply_length,
@@ -121,16 +121,11 @@ fn finish(f: Fed, session: Session, room: &mut [u8], area: &mut [u8]) -> Called
 }
 
 // Writes the reply to the front of the room, where there is one.
-pub(crate) fn write_reply(
-    replies: bool,
-    command: u8,
-    data: [u8; MAX_REPLY],
-    room: &mut [u8],
-) -> usize
-    ensures { ReplyLeft replies command «data» room.old result room.new }
+pub(crate) fn write_reply(reply: Option<[u8; MAX_REPLY]>, command: u8, room: &mut [u8]) -> usize
+    ensures { ReplyLeft «reply» command room.old result room.new }
 {
-    if replies {
-        return reply::write(command, data, room);
+    match reply {
+        Some(data) => reply::write(command, data, room),
+        None => 0,
     }
-    0
 }

@@ -31,7 +31,7 @@ impl Record {
             return refused(self, outcome);
         }
         let c = self.session.portion(most, area);
-        let reply_length = write_reply(c.replies, table::FE, c.reply, room);
+        let reply_length = write_reply(c.reply, table::FE, room);
         from_session(self, c, reply_length)
     }
 }

@@ -19,14 +19,13 @@ end_failed t = refl
 never_at_once : (t : Transfer) (channel : ℕ) → OtherState (answer_fe t channel)
 unfolding answer_fe reply_state
 never_at_once t channel =
-    of-both OtherState (not (receiving_or_done t.leg.phase) || other_channel t channel) _ _ (λ _ e. omega arith)
-    (of-both OtherState (not (eqb t.progress.stored t.image.announced)) _ _ (λ _ e. omega arith)
-    (λ e _. let z : ◌≡◌ {A = ℕ} 0 1 = cc in omega arith))
+    of-both OtherState (not (receiving_or_done t.leg.phase) || other_channel t channel) _ _ (λ e. omega arith)
+    (of-both OtherState (not (eqb t.progress.stored t.image.announced)) _ _ (λ e. omega arith) tt)
 
 never_at_end : (t : Transfer) (right : Bool) → OtherState (ended_fe t right)
 unfolding ended_fe reply_state
-never_at_end t true _ e = omega arith
-never_at_end t false _ e = omega arith
+never_at_end t true = λ e. omega arith
+never_at_end t false = λ e. omega arith
 
 pub never_state_02 : NeverState02
 never_state_02 = record { at_once = never_at_once; at_end = never_at_end }

@@ -1,5 +1,5 @@
 -- 01, "How the session answers": what FE and the end of its check answer. Assumes nothing.
-use Rattle.std.specs.Prelude.{◌≡◌, Bool, true, false, ℕ, [], ◌∷◌, get_or}
+use Rattle.std.specs.Prelude.{◌≡◌, Bool, false, IfSome, ℕ, [], ◌∷◌, get_or}
 use Rattle.commands.specs.States.{never_sent_fe}
 use Rattle.transfer.specs.declared.phase.Phase.TheVariants.{Idle}
 use Rattle.transfer.specs.declared.state.Transfer.{Transfer}
@@ -21,7 +21,7 @@ EndFailed =
 
 -- The claim: "State 02 of the page is never sent", neither at once nor at the end of the check; the state is a reply's second byte.
 abbrev pub OtherState : Step → Type 0
-OtherState x = x.replies ≡ true → get_or x.reply 1 0 ≡ never_sent_fe → ⊥
+OtherState x = IfSome x.reply (λ d. get_or d 1 0 ≡ never_sent_fe → ⊥)
 
 pub record NeverState02 : Type 0 where
   pub at_once : (t : Transfer) (channel : ℕ) → OtherState (answer_fe t channel)

@@ -3,6 +3,7 @@
 use mathlib.Core.Path.{◌≡◌, refl, sym, ap, ◌∙◌, subst}
 use mathlib.Core.Bool.{Bool, true, false, cond, not, ◌||◌}
 use mathlib.Core.List.{List}
+use Rattle.std.specs.Prelude.{None}
 use Prim.Native.Nat.{ℕ, ◌<◌, ◌≤◌}
 use native.Mathlib.Omega.{arith}
 use borrow.Author.Tests.{eq-eqb}
@@ -170,7 +171,7 @@ started-lawful s f area ok still y =
 -- while a check runs, no frame changes anything or has a reply
 pub record RunningSame (s : Session) (area : List ℕ) (x : Effect Answer) : Type 0 where
   pub same-session : x.gives.session ≡ s
-  pub no-reply : x.gives.replies ≡ false
+  pub no-reply : x.gives.reply ≡ None
   pub same_area : x.area ≡ area
 
 pub running-same : (s : Session) (f : FinishedFrame) (area : List ℕ) → s.transfer.check.running ≡ true

@@ -2,7 +2,9 @@
 use mathlib.Core.Path.{◌≡◌, refl, sym, ap, ap₂, ◌∙◌}
 use mathlib.Core.Bool.{Bool, true, false, cond, not, ◌||◌}
 use mathlib.Core.Logic.{◌⊎◌, inl, inr}
-use mathlib.Core.List.{List}
+use mathlib.Core.List.{List, []}
+use Rattle.std.specs.Prelude.{Option, Some}
+use Rattle.std.specs.Option.{unwrap_or}
 use Prim.Native.Nat.{ℕ}
 use native.Mathlib.Omega.{arith}
 use borrow.Author.Tests.{eqb-true, eq-eqb, lt-ltb, not-false}
@@ -57,9 +59,9 @@ go_fe t channel area =
     (cond (short t) (replied t (reply_state channel 1)) (ended_fe t (right_crc t area)))
 
 -- another state is another reply
-not-success : (m k n : ℕ) → padded max_reply (reply_state m n) ≡ padded max_reply (reply_state k 0) → n ≡ 0
+not-success : (m k n : ℕ) → Some (padded max_reply (reply_state m n)) ≡ Some (padded max_reply (reply_state k 0)) → n ≡ 0
 unfolding reply_state
-not-success m k n e = ap (λ (d : List ℕ). get_or d 1 0) e
+not-success m k n e = ap (λ (d : Option (List ℕ)). get_or (unwrap_or d []) 1 0) e
 
 module _ (t : Transfer) (channel : ℕ) (area : List ℕ) where
   complete_late : Complete t channel area → early t channel ≡ false
@@ -68,13 +70,13 @@ module _ (t : Transfer) (channel : ℕ) (area : List ℕ) where
   complete-full : Complete t channel area → short t ≡ false
   complete-full c = ap not (eq-eqb t.progress.stored t.image.announced c.all-stored)
 
-  complete-success : Complete t channel area → (go_fe t channel area).reply ≡ padded max_reply (reply_state channel 0)
+  complete-success : Complete t channel area → (go_fe t channel area).reply ≡ Some (padded max_reply (reply_state channel 0))
   unfolding go_fe ended_fe
   complete-success c =
       simp (complete_late c, complete-full c, eq-eqb _ t.image.crc c.right)
-      (ap (λ (k : ℕ). padded max_reply (reply_state k 0)) (sym c.here))
+      (ap (λ (k : ℕ). Some (padded max_reply (reply_state k 0))) (sym c.here))
 
-  success-complete : (go_fe t channel area).reply ≡ padded max_reply (reply_state channel 0) → Complete t channel area
+  success-complete : (go_fe t channel area).reply ≡ Some (padded max_reply (reply_state channel 0)) → Complete t channel area
   unfolding go_fe ended_fe
   success-complete e = go (early t channel) (short t) (right_crc t area) refl refl refl
     where
@@ -91,16 +93,16 @@ module _ (t : Transfer) (channel : ℕ) (area : List ℕ) where
             right = eqb-true _ t.image.crc ec;
           }
 
-  go-answered : ((go_fe t channel area).answered ≡ true) × ((go_fe t channel area).replies ≡ true)
+  go-answered : (go_fe t channel area).answered ≡ true
   unfolding go_fe ended_fe
   go-answered = go (early t channel) (short t) (right_crc t area) refl refl refl
     where
       go : (a b c : Bool) → early t channel ≡ a → short t ≡ b → right_crc t area ≡ c
-          → ((go_fe t channel area).answered ≡ true) × ((go_fe t channel area).replies ≡ true)
-      go true b c ea eb ec = (simp ea, simp ea)
-      go false true c ea eb ec = (simp (ea, eb), simp (ea, eb))
-      go false false false ea eb ec = (simp (ea, eb, ec), simp (ea, eb, ec))
-      go false false true ea eb ec = (simp (ea, eb, ec), simp (ea, eb, ec))
+          → (go_fe t channel area).answered ≡ true
+      go true b c ea eb ec = simp ea
+      go false true c ea eb ec = simp (ea, eb)
+      go false false false ea eb ec = simp (ea, eb, ec)
+      go false false true ea eb ec = simp (ea, eb, ec)
 
 -- ---- the session's
 
@@ -190,10 +192,8 @@ module _ (s : Session) (f : FinishedFrame) (channel : ℕ) (area : List ℕ) (e 
     backwards : Complete t channel area → SuccessIn channel (in_one_go s f area)
     backwards c =
         let a = chosen true (complete-listed c) in
-        let ok = go-answered t channel area in
         record {
-          answered = ap (λ (x : Answer). x.outcome) a ∙ ap (λ (b : Bool). cond b accepted wrong_phase) ok.0;
-          replies = ap (λ (x : Answer). x.replies) a ∙ ok.1;
+          answered = ap (λ (x : Answer). x.outcome) a ∙ ap (λ (b : Bool). cond b accepted wrong_phase) (go-answered t channel area);
           reply = ap (λ (x : Answer). x.reply) a ∙ complete-success t channel area c;
         }
 

@@ -2,6 +2,8 @@
 use mathlib.Core.Path.{◌≡◌, refl, sym, ap, ap₂, ◌∙◌, subst}
 use mathlib.Core.Bool.{Bool, true, false, not}
 use mathlib.Core.List.{List, [], ◌∷◌}
+use Rattle.std.specs.Prelude.{Option, Some}
+use Rattle.std.specs.Option.{unwrap_or}
 use Prim.Native.Nat.{ℕ, ◌+◌, ◌<◌}
 use native.Mathlib.Omega.{arith}
 use borrow.Author.Tests.{eqb-true, eqb-false, eq-eqb, lt-ltb, not-false}
@@ -125,15 +127,15 @@ all-left-alone x (f ∷ fs) none = ap (λ (y : SessionAndArea). then_frames y fs
 -- ---- the answers to packets
 
 -- a reply with state 00 is the transfer's
-state-of : (channel n : ℕ) → padded max_reply (reply_state channel n) ≡ padded max_reply (reply_state channel 0) → n ≡ 0
+state-of : (channel n : ℕ) → Some (padded max_reply (reply_state channel n)) ≡ Some (padded max_reply (reply_state channel 0)) → n ≡ 0
 unfolding reply_state
-state-of channel n e = ap (λ (d : List ℕ). get_or d 1 0) e
+state-of channel n e = ap (λ (d : Option (List ℕ)). get_or (unwrap_or d []) 1 0) e
 
 replies-state : (t : Transfer) (r : RequestFD) (p area : List ℕ)
-    → (effect_fd t r p area).gives.reply ≡ padded max_reply (reply_state r.channel (state_fd t r p area))
+    → (effect_fd t r p area).gives.reply ≡ Some (padded max_reply (reply_state r.channel (state_fd t r p area)))
 unfolding effect_fd
 replies-state t r p area =
-    of-both (λ (x : Effect Step). x.gives.reply ≡ padded max_reply (reply_state r.channel (state_fd t r p area)))
+    of-both (λ (x : Effect Step). x.gives.reply ≡ Some (padded max_reply (reply_state r.channel (state_fd t r p area))))
     (takes t r p area) _ _ refl refl
 
 with_00 : (s : Session) (g : FinishedFrame) (area : List ℕ) → g.command ≡ 0xFD → AnswersWith (answered s g area) (fields_of g) 0
@@ -238,7 +240,6 @@ repeated-frame x f fs ok size h none =
     record {
       unmoved = still;
       answered_00 = (ap (λ (a : Answer). a.outcome) same, ap (λ (a : Answer). a.reply) same);
-      replies = ap (λ (a : Answer). a.replies) same;
       unchanged = ap (λ (z : SessionAndArea). then_frame z f) still ∙ fd-passed-by y f h.command (λ n. omega arith);
       itself_alone = λ g fd other w.
           let z = with_00 y.session g y.area fd (subst (λ (l : SessionAndArea). AnswersWith (answer_at l g) (fields_of g) 0) still w) in

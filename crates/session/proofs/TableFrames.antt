@@ -2,6 +2,7 @@
 use mathlib.Core.Path.{◌≡◌, refl, sym, ap}
 use mathlib.Core.Bool.{Bool, true, false, cond, not}
 use mathlib.Core.List.{List}
+use Rattle.std.specs.Prelude.{is_some}
 use Prim.Native.Nat.{ℕ}
 use native.Mathlib.Omega.{arith}
 use borrow.Author.Tests.{eqb-true, eqb-false, ne_eqb}
@@ -63,7 +64,7 @@ has-reply f h e9 = go (eqb f.command 0xFA) (eqb f.command 0xFB) (eqb f.command 0
 -- whether there is a reply is the answer's to say, and the command never says otherwise
 module _ (s : Session) (f : FinishedFrame) (area : List ℕ) where
   abbrev Listed : Effect Answer → Type 0
-  Listed x = x.gives.replies ≡ true → has_reply f.command ≡ true
+  Listed x = is_some x.gives.reply ≡ true → has_reply f.command ≡ true
 
   silent : (n : Outcome) → Listed (unwritten (unchanged n s) area)
   silent n e = let z : ◌≡◌ {A = ℕ} 0 1 = cc in absurd (omega arith)

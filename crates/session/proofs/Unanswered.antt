@@ -2,6 +2,7 @@
 use mathlib.Core.Path.{◌≡◌, refl, ap}
 use mathlib.Core.Bool.{Bool, true, false, cond, not, ◌||◌}
 use mathlib.Core.List.{List}
+use Rattle.std.specs.Prelude.{Option}
 use Prim.Native.Nat.{ℕ}
 use native.Mathlib.Omega.{arith}
 use borrow.Author.Tests.{eq-eqb}
@@ -35,8 +36,7 @@ use Rattle.commands.proofs.Outcomes.{same-false}
 abbrev Still : Transfer → Step → Type 0
 Still t x = x.answered ≡ false → x ≡ unanswered t
 
-answers : {t : Transfer} {replies : Bool} (u : Transfer) (d : List ℕ)
-    → Still t (record { answered = true; replies = replies; transfer = u; reply = d })
+answers : {t : Transfer} (u : Transfer) (d : Option (List ℕ)) → Still t (record { answered = true; transfer = u; reply = d })
 answers u d e = let z : ◌≡◌ {A = ℕ} 0 1 = cc in absurd (omega arith)
 
 module _ (t : Transfer) where
@@ -89,7 +89,7 @@ abbrev Quiet : Session → List ℕ → Effect Answer → Type 0
 Quiet s area x = (x.gives.outcome ≡ accepted → ⊥) → NothingChanged s area x.gives x.area
 
 unchanged-quiet : (s : Session) (area : List ℕ) (n : Outcome) → Quiet s area (unwritten (unchanged n s) area)
-unchanged-quiet s area n z = record { session = refl; no-reply = refl; no_data_lem = refl; same_area = refl }
+unchanged-quiet s area n z = record { session = refl; no-reply = refl; same_area = refl }
 
 stepped-quiet : (s : Session) (f : FinishedFrame) (b : Board) (area : List ℕ) → Quiet s area (within s (effect_of s.transfer f b area))
 stepped-quiet s f b area z = go (effect_of s.transfer f b area).gives.answered refl
@@ -102,8 +102,7 @@ stepped-quiet s f b area z = go (effect_of s.transfer f b area).gives.answered r
         record {
           session = ap (λ (x : Step). record { boards = s.boards; count = s.count; opened = s.opened; transfer = x.transfer })
               still.0;
-          no-reply = ap (λ (x : Step). x.replies) still.0;
-          no_data_lem = ap (λ (x : Step). x.reply) still.0;
+          no-reply = ap (λ (x : Step). x.reply) still.0;
           same_area = still.1;
         }
 

@@ -1,13 +1,11 @@
 -- 01, "How the session answers": "First version byte, L and channel are checked (outcomes 2, 3, 4 below, in that order)." Document 02,
 -- K5: "While a check runs, FA to FE get a new outcome 12 after 4, as 2." Then the transfer's answer to the command. Assumes nothing.
-use Rattle.std.specs.Prelude.{false, cond, not, List, ℕ, ltb, eqb, length, get_or}
+use Rattle.std.specs.Prelude.{cond, not, None, List, ℕ, ltb, eqb, length, get_or}
 use Rattle.frames.specs.declared.finished.FinishedFrame.{FinishedFrame}
-use Rattle.sequences.specs.Padding.{zeros}
 use Rattle.commands.specs.declared.table.Header.{Header}
 use Rattle.commands.specs.declared.table.Header.TheVariants.{Unlisted, Wrong, Right}
 use Rattle.commands.specs.Table.{header_of}
 use Rattle.requests.specs.Requests.{channel_of, request_fa, request_fb, request_fc, request_fd, packet_of}
-use Rattle.commands.specs.Limits.{max_reply}
 use Rattle.boards.specs.declared.board.Board.{Board}
 use Rattle.transfer.specs.declared.state.Transfer.{Transfer}
 use Rattle.transfer.specs.declared.state.Step.{Step}
@@ -27,14 +25,13 @@ use Rattle.session.specs.Lawful.{unlawful}
 
 -- no reply, nothing changed
 abbrev pub unchanged : Outcome → Session → Answer
-unchanged outcome s = record { outcome = outcome; replies = false; session = s; reply = zeros max_reply }
+unchanged outcome s = record { outcome = outcome; session = s; reply = None }
 
 -- the transfer's answer; outcome 10 where there is none
 abbrev pub stepped : Session → Step → Answer
 stepped s x =
     record {
       outcome = cond x.answered accepted wrong_phase;
-      replies = x.replies;
       session = with_transfer s x.transfer;
       reply = x.reply;
     }

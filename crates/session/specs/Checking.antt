@@ -1,9 +1,7 @@
 -- Document 02, K5: a portion call, as far as the session goes. It refuses "9, 6, .. then 18 when no check runs: count 0, unfinished,
 -- nothing changed"; "The call that reads the last byte gives the verdict and FE's reply .. (outcome 0); before that it is 19". Assumes
 -- nothing.
-use Rattle.std.specs.Prelude.{false, cond, not, List, ℕ, eqb, length}
-use Rattle.sequences.specs.Padding.{zeros}
-use Rattle.commands.specs.Limits.{max_reply}
+use Rattle.std.specs.Prelude.{cond, not, None, List, ℕ, eqb, length}
 use Rattle.image.specs.declared.check.Verdict.{Verdict}
 use Rattle.image.specs.declared.check.Verdict.TheVariants.{Unfinished, Right, Wrong}
 use Rattle.ending.specs.declared.check.CheckStep.{CheckStep}
@@ -22,7 +20,7 @@ outcome_of Wrong = accepted
 
 -- refused: "count 0, unfinished, nothing changed"
 abbrev pub refused_check : Outcome → Session → Checked
-refused_check outcome s = record { outcome = outcome; count = 0; verdict = Unfinished; replies = false; session = s; reply = zeros max_reply }
+refused_check outcome s = record { outcome = outcome; count = 0; verdict = Unfinished; session = s; reply = None }
 
 abbrev pub checked_by : Session → CheckStep → Checked
 checked_by s p =
@@ -30,7 +28,6 @@ checked_by s p =
       outcome = outcome_of p.verdict;
       count = p.count;
       verdict = p.verdict;
-      replies = p.step.replies;
       session = with_transfer s p.step.transfer;
       reply = p.step.reply;
     }

@@ -2,7 +2,7 @@
 -- the announced one, and the CRC-32 of the bytes then standing in the area is the announced one." Document 02, K5: it "speaks of an end
 -- request that does not meet 12, once its check is finished ..; its verdict is that of the check in one go". Here the check is made in one
 -- go; that portions of any size come to the same is the record's claim, one layer up. Assumes nothing.
-use Rattle.std.specs.Prelude.{◌≡◌, true, false, ◌↔◌, List, ℕ, length, take}
+use Rattle.std.specs.Prelude.{◌≡◌, true, false, ◌↔◌, Some, List, ℕ, length, take}
 use Rattle.crc.specs.Crc.{checksum, crc32}
 use Rattle.frames.specs.declared.finished.FinishedFrame.{FinishedFrame}
 use Rattle.sequences.specs.Padding.{padded}
@@ -36,8 +36,7 @@ pub record Complete (t : Transfer) (channel : ℕ) (area : List ℕ) : Type 0 wh
 -- an answer with the reply FE, that channel, 00
 pub record SuccessIn (channel : ℕ) (a : Answer) : Type 0 where
   pub answered : a.outcome ≡ accepted
-  pub replies : a.replies ≡ true
-  pub reply : a.reply ≡ padded max_reply (reply_state channel granted)
+  pub reply : a.reply ≡ Some (padded max_reply (reply_state channel granted))
 
 -- the claim: premises on the input alone
 abbrev pub EndRequest : Type 0

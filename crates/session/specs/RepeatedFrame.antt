@@ -1,7 +1,7 @@
 -- Document 02, K2, "A lost reply must not cost the whole leg", at the session: a frame FD whose packet was taken is answered 00 when it
 -- comes again and changes nothing, whatever came in between that left session and area as they are; a frame FD that differs in a field or
 -- a byte, the next packet aside, is not answered 00. Which frames leave both as they are is a claim of its own. Assumes nothing.
-use Rattle.std.specs.Prelude.{◌≡◌, true, false, List, [], ◌∷◌, ℕ, ◌+◌, length, get_or}
+use Rattle.std.specs.Prelude.{◌≡◌, true, false, Some, List, [], ◌∷◌, ℕ, ◌+◌, length, get_or}
 use Rattle.frames.specs.declared.finished.FinishedFrame.{FinishedFrame}
 use Rattle.sequences.specs.Padding.{padded}
 use Rattle.requests.specs.declared.request.RequestFD.{RequestFD}
@@ -55,15 +55,14 @@ abbrev pub LeaveAlone : SessionAndArea → List FinishedFrame → Type 0
 LeaveAlone x [] = Unit
 LeaveAlone x (f ∷ fs) = (then_frame x f ≡ x) × LeaveAlone x fs
 
--- outcome 0, and the data of a reply to an FD with this state
+-- outcome 0, and a reply to an FD with this state
 abbrev pub AnswersWith : Answer → RequestFD → ℕ → Type 0
-AnswersWith a r state = (a.outcome ≡ accepted) × (a.reply ≡ padded max_reply (reply_state r.channel state))
+AnswersWith a r state = (a.outcome ≡ accepted) × (a.reply ≡ Some (padded max_reply (reply_state r.channel state)))
 
 -- what holds once frame f was taken at x and the frames fs came after it
 pub record FrameRepeated (x : SessionAndArea) (f : FinishedFrame) (fs : List FinishedFrame) : Type 0 where
   pub unmoved : then_frames (then_frame x f) fs ≡ then_frame x f
   pub answered_00 : AnswersWith (answer_at (then_frames (then_frame x f) fs) f) (fields_of f) granted
-  pub replies : (answer_at (then_frames (then_frame x f) fs) f).replies ≡ true
   pub unchanged : then_frame (then_frames (then_frame x f) fs) f ≡ then_frame x f
   -- of the frames FD with another number than the next only f is answered 00, by fields and bytes
   pub itself_alone : (g : FinishedFrame) → g.command ≡ 0xFD → ((fields_of g).number ≡ (fields_of f).number + 1 → ⊥)

@@ -15,17 +15,15 @@ use commands::table::Header;
 use ending::fe;
 use frames::finished::FinishedFrame;
 use packets::fd;
-use replies::reply;
 use requests::request;
 use transfer::state::{Step, Transfer};
 
-// What a frame makes of a session. Only with outcome 0 can there be a reply; without one its data is zeros.
+// What a frame makes of a session, and the reply's data, where there is a reply: only with outcome 0.
 #[derive(Clone, Copy)]
 pub struct Answer {
     pub outcome: Outcome,
-    pub replies: bool,
     pub session: Session,
-    pub reply: [u8; MAX_REPLY],
+    pub reply: Option<[u8; MAX_REPLY]>,
 }
 
 impl Session {
@@ -91,30 +89,24 @@ impl Answer {
     fn unchanged(outcome: Outcome, session: Session) -> Answer
         ensures { result ≡ unchanged outcome session }
     {
-        // The borrow checker takes an array into a literal only by a name.
-        let reply = reply::none();
         Answer {
             outcome,
-            replies: false,
             session,
-            reply,
+            reply: None,
         }
     }
 
     fn stepped(session: Session, step: Step) -> Answer
         ensures { result ≡ stepped session step }
     {
-        // The borrow checker takes an array into a literal only by a name.
-        let reply = step.reply;
         Answer {
             outcome: if step.answered {
                 Outcome::Accepted
             } else {
                 Outcome::WrongPhase
             },
-            replies: step.replies,
             session: session.with_transfer(step.transfer),
-            reply,
+            reply: step.reply,
         }
     }
 }

@@ -8,17 +8,16 @@ use commands::outcome::Outcome;
 use ending::check;
 use ending::check::CheckStep;
 use image::check::Verdict;
-use replies::reply;
 
-// What a portion call makes of a session. A refused one reads nothing, has no verdict and changes nothing.
+// What a portion call makes of a session, and the data of FE's reply, which comes with the verdict. A refused call reads nothing, has no
+// verdict and changes nothing.
 #[derive(Clone, Copy)]
 pub struct Checked {
     pub outcome: Outcome,
     pub count: usize,
     pub verdict: Verdict,
-    pub replies: bool,
     pub session: Session,
-    pub reply: [u8; MAX_REPLY],
+    pub reply: Option<[u8; MAX_REPLY]>,
 }
 
 impl Session {
@@ -45,30 +44,24 @@ impl Checked {
     fn refused(outcome: Outcome, session: Session) -> Checked
         ensures { result ≡ refused_check outcome session }
     {
-        // The borrow checker takes an array into a literal only by a name.
-        let reply = reply::none();
         Checked {
             outcome,
             count: 0,
             verdict: Verdict::Unfinished,
-            replies: false,
             session,
-            reply,
+            reply: None,
         }
     }
 
     fn portion(session: Session, portion: CheckStep) -> Checked
         ensures { result ≡ checked_by session «portion» }
     {
-        // The borrow checker takes an array into a literal only by a name.
-        let reply = portion.step.reply;
         Checked {
             outcome: outcome_of(portion.verdict),
             count: portion.count,
             verdict: portion.verdict,
-            replies: portion.step.replies,
             session: session.with_transfer(portion.step.transfer),
-            reply,
+            reply: portion.step.reply,
         }
     }
 }

@@ -43,12 +43,10 @@ impl Session {
                 session: Session::none(),
             };
         }
-        // The borrow checker takes an array into a literal only by a name.
-        let boards = list::list_of(boards, count);
         Opening {
             outcome: Outcome::Accepted,
             session: Session {
-                boards,
+                boards: list::list_of(boards, count),
                 count,
                 opened: area,
                 transfer: Transfer::none(),

@@ -1,6 +1,6 @@
 -- The state of a transfer, the ways in which a command or a portion of the end check changes it, and what these answer. Assumes nothing.
-use Rattle.std.specs.Prelude.{Bool, true, false, not, List, ℕ, eqb}
-use Rattle.sequences.specs.Padding.{padded, zeros}
+use Rattle.std.specs.Prelude.{Bool, true, false, not, Some, None, List, ℕ, eqb}
+use Rattle.sequences.specs.Padding.{padded}
 use Rattle.image.specs.declared.check.Check.{Check}
 use Rattle.image.specs.Progresses.{progress_from}
 use Rattle.image.specs.Checks.{no_check}
@@ -46,13 +46,13 @@ other_channel t channel = not (eqb channel t.leg.channel)
 -- (outcome 10)
 
 abbrev pub replied : Transfer → List ℕ → Step
-replied t d = record { answered = true; replies = true; transfer = t; reply = padded max_reply d }
+replied t d = record { answered = true; transfer = t; reply = Some (padded max_reply d) }
 
 abbrev pub noted : Transfer → Step
-noted t = record { answered = true; replies = false; transfer = t; reply = zeros max_reply }
+noted t = record { answered = true; transfer = t; reply = None }
 
 abbrev pub unanswered : Transfer → Step
-unanswered t = record { answered = false; replies = false; transfer = t; reply = zeros max_reply }
+unanswered t = record { answered = false; transfer = t; reply = None }
 
 -- what a command gives, and the area as it leaves it
 pub record Effect (A : Type 0) : Type 0 where

@@ -1,5 +1,5 @@
 // The state of a transfer, and the few ways in which a command or a portion of the end check changes it.
-ghost use Rattle.std.specs.Prelude.{◌≡◌, true};
+ghost use Rattle.std.specs.Prelude.{◌≡◌, true, Some};
 ghost use Rattle.transfer.specs.Transfers.{no_leg, no_transfer, in_phase, with_leg, with_phase, replaced, with_check, noted};
 ghost use Rattle.transfer.specs.Transfers.{unanswered, other_channel};
 
@@ -8,7 +8,6 @@ use crate::phase::Phase;
 use commands::limits::MAX_REPLY;
 use image::check::Check;
 use image::progress::Progress;
-use replies::reply;
 
 // What a transfer has agreed on, and how far its frames have come.
 #[derive(Clone, Copy, PartialEq, Eq)]
@@ -30,24 +29,23 @@ pub struct Transfer {
     pub check: Check,
 }
 
-// What a command or a portion makes of a transfer. Without an answer the transfer is the old one; without a reply its data is zeros.
+// What a command or a portion makes of a transfer, and the reply's data, where there is a reply. Without an answer there is none, and the
+// transfer is the old one.
 #[derive(Clone, Copy)]
 pub struct Step {
     pub answered: bool,
-    pub replies: bool,
     pub transfer: Transfer,
-    pub reply: [u8; MAX_REPLY],
+    pub reply: Option<[u8; MAX_REPLY]>,
 }
 
 impl Step {
     pub fn replied(transfer: Transfer, reply: [u8; MAX_REPLY]) -> Step
-        ensures { result ≡ record { answered = true; replies = true; transfer = transfer; reply = reply } }
+        ensures { result ≡ record { answered = true; transfer = transfer; reply = Some reply } }
     {
         Step {
             answered: true,
-            replies: true,
             transfer,
-            reply,
+            reply: Some(reply),
         }
     }
 
@@ -57,9 +55,8 @@ impl Step {
     {
         Step {
             answered: true,
-            replies: false,
             transfer,
-            reply: reply::none(),
+            reply: None,
         }
     }
 
@@ -68,9 +65,8 @@ impl Step {
     {
         Step {
             answered: false,
-            replies: false,
             transfer,
-            reply: reply::none(),
+            reply: None,
         }
     }
 }
