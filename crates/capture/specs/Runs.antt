@@ -22,7 +22,8 @@ use Rattle.capture.specs.Stages.{no_more, AfterRead, stage_quiet}
 abbrev pub run_over : Run → Output → Bool
 run_over run o = o.failed || (not (is_checking run.record) && no_more run.stage)
 
--- "opens this board .. reads a capture": nothing is read, dropped or written yet
+-- "opens this board .. reads a capture": nothing is read, dropped or written yet. Of what waits to be written the output says it, which the
+-- program asks for (replay/src/main.rt)
 abbrev pub start_run : Record → Run
 start_run r = record { «record» = r; stage = Feeding; unfed = record { at = 0; end = 0 }; account = nothing_told }
 

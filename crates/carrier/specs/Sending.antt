@@ -4,7 +4,7 @@ use Rattle.std.specs.Prelude.{◌≡◌, cond, List, [], ◌++◌, unwrap_or, �
 use Rattle.link.specs.declared.frame.Frame.{Frame}
 use Rattle.link.specs.declared.link.Link.{Link}
 use Rattle.link.specs.declared.script.Letter.{Letter}
-use Rattle.link.specs.declared.script.Letter.TheVariants.{Pass, Lose, Repeat, Silence}
+use Rattle.link.specs.declared.script.Letter.TheVariants.{Pass, Lose, Repeat, Silence, Other}
 use Rattle.link.specs.declared.script.Script.{Script}
 use Rattle.link.specs.Links.{places, no_frames, sent_link, sent_memory}
 use Rattle.link.specs.Scripts.{letter_of, after_sending}
@@ -56,6 +56,7 @@ by_letter Pass l s memory f = passing l s memory f
 by_letter Lose l s memory f = losing l s memory f
 by_letter Repeat l s memory f = repeating l s memory f
 by_letter Silence l s memory f = passing l s memory f
+by_letter (Other b) l s memory f = passing l s memory f
 
 -- "Sending a frame uses up the script's next letter if that is p, l or r. An `s` is not used up here ..; then, and after the script's end,
 -- the frame passes."

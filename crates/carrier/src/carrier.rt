@@ -40,7 +40,7 @@ impl Carrier {
         match letter {
             Letter::Lose => self.lose(frame, output),
             Letter::Repeat => self.pass(frame, memory, output).pass(frame, memory, output),
-            Letter::Pass | Letter::Silence => self.pass(frame, memory, output),
+            Letter::Pass | Letter::Silence | Letter::Other(_) => self.pass(frame, memory, output),
         }
     }
 

@@ -119,10 +119,17 @@ pub fn row_of(command: u8) -> Row
     })
 }
 
-// A command's row.
+// All rows: those of the definition, in its order.
 #[tactic(auto, unfolding(crate::specs::Table::table))]
+fn rows() -> &'static [Row]
+    ensures { result.now ≡ table }
+{
+    &TABLE
+}
+
+// A command's row.
 fn listed(command: u8) -> Option<Row>
     ensures { result ≡ find (λ row. row.command == command) table }
 {
-    TABLE.iter().copied().find(|row| row.command == command)
+    rows().iter().copied().find(|row| row.command == command)
 }

@@ -14,6 +14,9 @@
 //     3 feed 0 taken=8 dropped=0 command=FE length=1 reply=55AA00FE00020A030C past=- area=- |
 //
 // docs/CONSOLE.md has every command and every field. A failed read or write is told on standard error. The exit status is 0 all the same.
+ghost use Rattle.std.specs.Prelude.{◌≡◌};
+ghost use Rattle.text.specs.Outputs.{nothing};
+
 use desk::desk::{IMAGE, MEMORY};
 use desk::run::Run;
 use lines::lines::INPUT;
@@ -45,7 +48,7 @@ fn main(rt: HostRuntime) {
     finish(run, &mut output);
 }
 
-// Turns until the session is over. A proved loop has to end, and nothing says that the input does: there are as many turns as no session
+// Turns until the session is over, from where no line waits yet. A proved loop has to end, and nothing says that the input does: there are as many turns as no session
 // uses up.
 fn session(
     stdin: Stdin,
@@ -57,7 +60,9 @@ fn session(
     kept: &mut [u8; MEMORY],
     kept_area: &mut [u8; MEMORY],
     output: &mut Output,
-) -> Run {
+) -> Run
+    requires { output.old ≡ nothing }
+{
     let mut run = Run::start();
     for _ in 0..u64::MAX {
         if run.is_over {

@@ -10,6 +10,7 @@ pub mod Meeting
 pub mod Folding
 pub mod Bounds
 pub mod Parts
+pub mod CountedParts
 pub mod Multiples
 pub mod Vectors
 pub mod Widths

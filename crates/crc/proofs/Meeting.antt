@@ -1,7 +1,7 @@
 -- A register meets the first bytes after it: it may be added to these instead. Assumes nothing.
 use mathlib.Core.Path.{◌≡◌, refl, sym, ap, ap₂, ◌∙◌}
 use mathlib.Core.List.{List, [], ◌∷◌}
-use Prim.Native.Nat.{ℕ, suc, ◌+◌, ◌-◌, ◌≤◌, ◌<◌}
+use Prim.Native.Nat.{ℕ, zero, suc, ◌+◌, ◌-◌, ◌≤◌, ◌<◌}
 use native.Mathlib.Numerals.{add-one}
 use native.Mathlib.Omega.{arith}
 use lib.Bits.{bit_xor, xor_zero_l, xor_zero_r}
@@ -72,3 +72,16 @@ pub met_all : (k : Kind) (s b z : List ℕ) (at i n q : ℕ) → n ≤ i → set
 met_all k s b z at i n q end before =
     let none : n - i ≡ 0 = omega arith in
     sym (ap (λ (j : ℕ). sets b (at + i) (met k q (take j (drop i s)))) none) ∙ before
+
+-- the first n bytes from place i on, one by one: those of a list that is not written out
+abbrev pub firsts : ℕ → ℕ → List ℕ → List ℕ
+firsts zero i s = []
+firsts (suc n) i s = get_or s i 0 ∷ firsts n (suc i) s
+
+firsts-drop : (n i : ℕ) (s : List ℕ) → i + n ≤ length s → take n (drop i s) ≡ firsts n i s
+firsts-drop zero i s h = refl
+firsts-drop (suc n) i s h =
+    ap (take (suc n)) (drop-cons s i 0 (omega arith)) ∙ ap (λ (l : List ℕ). get_or s i 0 ∷ l) (firsts-drop n (suc i) s (omega arith))
+
+pub take-firsts : (n : ℕ) (s : List ℕ) → n ≤ length s → take n s ≡ firsts n 0 s
+take-firsts n s h = firsts-drop n 0 s (omega arith)

@@ -9,23 +9,23 @@ use Rattle.crc.specs.Folding.{Stands, Carries}
 use Rattle.crc.proofs.Updates.{update-append}
 
 -- what it keeps: it started with b and has c, which stands for a register that the bytes that are left carry on to the one after s
-abbrev pub CarriedOn : Kind → ℕ → List ℕ → List ℕ → List ℕ → List ℕ → List ℕ → Type 0
-CarriedOn k d offs s b c left = (r : ℕ) → Stands k d offs r b → (q : ℕ) × (Stands k d offs q c × (update k q left ≡ update k r s))
+abbrev pub Carrying : Kind → ℕ → List ℕ → List ℕ → List ℕ → List ℕ → List ℕ → Type 0
+Carrying k d offs s b c left = (r : ℕ) → Stands k d offs r b → (q : ℕ) × (Stands k d offs q c × (update k q left ≡ update k r s))
 
 module _ (k : Kind) (d : ℕ) (offs : List ℕ) (s b : List ℕ) where
-  pub carried_none : (left : List ℕ) → left ≡ s → CarriedOn k d offs s b b left
-  carried_none left all r at = (r, (at, ap (update k r) all))
+  pub carrying_none : (left : List ℕ) → left ≡ s → Carrying k d offs s b b left
+  carrying_none left all r at = (r, (at, ap (update k r) all))
 
-  pub carried_next : (c e left part more : List ℕ) → left ≡ part ++ more → Carries k d offs part c e → CarriedOn k d offs s b c left
-      → CarriedOn k d offs s b e more
-  carried_next c e left part more split done before r at =
+  pub carrying_next : (c e left part more : List ℕ) → left ≡ part ++ more → Carries k d offs part c e → Carrying k d offs s b c left
+      → Carrying k d offs s b e more
+  carrying_next c e left part more split done before r at =
       let now = before r at in
       let q = now.0 in
       (update k q part, (done q now.1.0, sym (ap (update k q) split ∙ update-append k q part more) ∙ now.1.1))
 
-  pub carried_all : (c left : List ℕ) → length left ≡ 0 → CarriedOn k d offs s b c left → Carries k d offs s b c
+  pub carrying_all : (c left : List ℕ) → length left ≡ 0 → Carrying k d offs s b c left → Carries k d offs s b c
   unfolding update
-  carried_all c [] none before r at =
+  carrying_all c [] none before r at =
       let now = before r at in
       subst (λ (x : ℕ). Stands k d offs x c) now.1.1 now.1.0
-  carried_all c (x ∷ left) none before r at = absurd (omega arith)
+  carrying_all c (x ∷ left) none before r at = absurd (omega arith)

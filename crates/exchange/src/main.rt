@@ -32,10 +32,13 @@ mod arguments;
 mod image_file;
 mod letters;
 
-ghost use Rattle.std.specs.Prelude.{◌≡◌, ◌≤◌, ◌<◌, length};
+ghost use Rattle.std.specs.Prelude.{◌≡◌, ◌≤◌, ◌<◌, List, ℕ, length};
 ghost use Rattle.commands.specs.Limits.{max_area};
 ghost use Rattle.bench.specs.Boards.{fresh_on};
 ghost use Rattle.ends.specs.Ends.{open_sender};
+ghost use Rattle.dialogue.specs.Dialogues.{dialogue_of, TurnMade};
+ghost use Rattle.dialogue.specs.Turns.{request_turn};
+ghost use Rattle.text.specs.Outputs.{nothing};
 ghost use Rattle.words.specs.Ranges.{InRange};
 ghost use Rattle.words.specs.Sayings.{board_channel, packet_size};
 
@@ -72,7 +75,8 @@ fn exchange(words: Words, script: Script, bytes: &[u8; MAX_IMAGE], n: usize, let
     let mut memory = io::large_buffer();
     let mut area = io::large_buffer();
     let mut output = Output::empty();
-    let begun = start(words, script, image).request(image, letters, &mut memory, &mut output);
+    let started = start(words, script, image);
+    let begun = first_request(started, image, letters, &mut memory, &mut output);
     let run = turns(begun, image, letters, &mut memory, &mut area, &mut output);
     run.end(image, &memory, &area, &mut output);
     if output.failed {
@@ -89,6 +93,22 @@ fn start(words: Words, script: Script, image: &[u8]) -> Run
         (result.sender ≡ open_sender (board_channel words) (packet_size words) (length image.now)) }
 {
     Run::start(words.board_channel(), words.packet_size(), script, image)
+}
+
+// The run begins where no line waits yet.
+fn first_request(
+    started: Run,
+    image: &[u8],
+    letters: &[u8],
+    memory: &mut [u8; MEMORY],
+    output: &mut Output,
+) -> Run
+    requires { output.old ≡ nothing }
+    ensures { (area : List ℕ)
+        → TurnMade (request_turn (dialogue_of started memory.old area) image.now letters.now)
+        nothing result memory.new area output.new }
+{
+    started.request(image, letters, memory, output)
 }
 
 // Turns until the run is over. A proved loop has to end, and that every exchange ends is not proved here: the turns are counted up to a

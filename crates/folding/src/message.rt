@@ -1,5 +1,5 @@
 // The register over a long message: folded down to a few bytes, which the tables then take.
-ghost use Rattle.std.specs.Prelude.{◌≡◌, ◌+◌, ◌≤◌, ◌<◌, length, take, replicate};
+ghost use Rattle.std.specs.Prelude.{◌≡◌, ◌+◌, ◌≤◌, ◌<◌, true, length, take, replicate};
 ghost use Rattle.std.proofs.lemmas.List.Edits.{sets};
 ghost use Rattle.crc.specs.Crc.{Kind, update};
 ghost use Rattle.crc.specs.Folding.{Within, Multiple, Carries, head_at, met, unmet};
@@ -18,7 +18,36 @@ pub struct Fold<const N: usize> {
 }
 
 // The register after the bytes of s. Lent are a buffer of zeros for the bytes that count and a part behind them, and one for the last bytes.
+// Nothing is asked of them: where they do not fit, or s has fewer bytes than meet the register, all of s goes by the tables.
 pub fn over<T: Tables, const N: usize>(
+    f: &Fold<N>,
+    t: &T,
+    register: T::Register,
+    s: &[u8],
+    b: &mut [u8],
+    u: &mut [u8],
+) -> T::Register
+    ensures { (k : Kind) → Goes k T.Register.width f.now.direction → T.are_right k t.now
+        → Within T.Register.BYTES f.now.far f.now.offsets → Multiple k f.now.far f.now.offsets
+        → unmet k T.Register.BYTES (T.Register.number register) ≡ 0
+        → b.old ≡ replicate (length b.old) 0
+        → T.Register.number result ≡ update k (T.Register.number register) s.now }
+{
+    if fits(f.far, T::Register::BYTES, s.len(), b.len(), u.len()) {
+        return folded(f, t, register, s, b, u);
+    }
+    slicing::over(f.direction, t, register, s)
+}
+
+// Whether so many bytes that meet a register are there, and memory of these lengths fits offsets up to `far`.
+fn fits(far: usize, bytes: usize, n: usize, b: usize, u: usize) -> bool
+    ensures { result ≡ true → ((bytes ≤ far) × (bytes ≤ n)) × ((far + far < b) × (u ≡ far)) }
+{
+    bytes <= far && bytes <= n && far < b && far < b - far && u == far
+}
+
+// `over`, where the memory fits.
+fn folded<T: Tables, const N: usize>(
     f: &Fold<N>,
     t: &T,
     register: T::Register,
@@ -28,10 +57,10 @@ pub fn over<T: Tables, const N: usize>(
 ) -> T::Register
     requires meets { (T.Register.BYTES ≤ f.now.far) × (T.Register.BYTES ≤ length s.now) }
     requires fits { (f.now.far + f.now.far < length b.old) × (length u.old ≡ f.now.far) }
-    requires zeros { b.old ≡ replicate (length b.old) 0 }
     ensures { (k : Kind) → Goes k T.Register.width f.now.direction → T.are_right k t.now
         → Within T.Register.BYTES f.now.far f.now.offsets → Multiple k f.now.far f.now.offsets
         → unmet k T.Register.BYTES (T.Register.number register) ≡ 0
+        → b.old ≡ replicate (length b.old) 0
         → T.Register.number result ≡ update k (T.Register.number register) s.now }
 {
     put_head(f, register, s, &mut *b);

@@ -2,7 +2,7 @@
 use Rattle.std.specs.Prelude.{ℕ, ◌+◌, Bool, true, false, cond, ◌||◌, List, Option, None, Some, ◌==◌, nat_lt, slice_index}
 use Rattle.std.specs.List.{list_all}
 use Rattle.link.specs.declared.script.Letter.{Letter}
-use Rattle.link.specs.declared.script.Letter.TheVariants.{Pass, Lose, Repeat, Silence}
+use Rattle.link.specs.declared.script.Letter.TheVariants.{Pass, Lose, Repeat, Silence, Other}
 use Rattle.link.specs.declared.script.Script.{Script}
 
 -- "letters p, l, r, s": a frame passes, is lost, or is repeated; silence is told
@@ -24,11 +24,11 @@ is_letter b = b == pass || (b == lose || (b == repeat || b == silence))
 abbrev pub all_letters : List ℕ → Bool
 all_letters s = list_all is_letter s
 
--- what a byte says, if it is a letter
+-- what a byte says: one that is no letter stands as it is, and 0 is none
 abbrev pub letter_said : ℕ → Option Letter
 letter_said b =
     cond (b == pass) (Some Pass)
-    (cond (b == lose) (Some Lose) (cond (b == repeat) (Some Repeat) (cond (b == silence) (Some Silence) None)))
+    (cond (b == lose) (Some Lose) (cond (b == repeat) (Some Repeat) (cond (b == silence) (Some Silence) (cond (b == 0) None (Some (Other b))))))
 
 -- the next letter, if one is left
 abbrev pub letter_of : Script → List ℕ → Option Letter
@@ -40,6 +40,7 @@ is_silence (Some Pass) = false
 is_silence (Some Lose) = false
 is_silence (Some Repeat) = false
 is_silence (Some Silence) = true
+is_silence (Some (Other b)) = false
 
 -- it "is used up"
 abbrev pub used_up : Script → Script

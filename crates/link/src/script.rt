@@ -2,17 +2,19 @@
 ghost use Rattle.std.specs.Prelude.{◌≡◌};
 ghost use Rattle.link.specs.Scripts.{letter_said, letter_of, used_up, after_sending, is_letter, all_letters};
 
-// A frame passes, is lost, or is repeated; silence is told.
+// A frame passes, is lost, or is repeated; silence is told. Any other byte but 0 is kept as it stands: a script that was not read by
+// `is_script` may have it, and who asks for the next letter is told which it is.
 #[derive(Clone, Copy, PartialEq, Eq)]
 pub enum Letter {
     Pass,
     Lose,
     Repeat,
     Silence,
+    Other(u8),
 }
 
 impl Letter {
-    // What a byte of a script says.
+    // What a byte of a script says; 0 says that none is left.
     fn said(b: u8) -> Option<Letter>
         ensures { result ≡ letter_said b }
     {
@@ -21,7 +23,8 @@ impl Letter {
             b'l' => Some(Letter::Lose),
             b'r' => Some(Letter::Repeat),
             b's' => Some(Letter::Silence),
-            _ => None,
+            0 => None,
+            other => Some(Letter::Other(other)),
         }
     }
 }

@@ -1,12 +1,14 @@
 -- What holds of a packet that is taken and of one that is repeated. Assumes nothing.
-use mathlib.Core.Path.{◌≡◌, refl, ap, ap₂, ◌∙◌}
+use mathlib.Core.Path.{◌≡◌, refl, sym, ap, ap₂, ◌∙◌}
 use mathlib.Core.List.{List}
-use Prim.Native.Nat.{ℕ, ◌+◌, ◌≤◌, ◌<◌}
+use Prim.Native.Nat.{ℕ, ◌+◌, ◌-◌, ◌≤◌, ◌<◌}
 use native.Mathlib.Omega.{arith}
 use lib.ListN.{length}
+use mathlib.Core.Logic.{⊎_elim}
 use mathlib.Core.Bool.{Bool, true, false, not, ◌||◌, ◌&&◌, and-eq-true_iff}
 use lib.Dec.{ltb, eqb}
 use borrow.Author.Tests.{lt-ltb, le-ltb, ltb-true, ltb-false, eqb-true, eqb-false, eq-eqb, ne_eqb, not-true, not-false}
+use Rattle.sequences.proofs.Orders.{lt_or_le}
 use Rattle.requests.specs.declared.request.RequestFD.{RequestFD}
 use Rattle.transfer.specs.declared.phase.Phase.{Phase}
 use Rattle.transfer.specs.declared.phase.Phase.TheVariants.{Idle, Asked, Told, Receiving, Done}
@@ -16,6 +18,20 @@ use Rattle.packets.specs.FD.{not_receiving_here, not_next, wrong_size, wrong_crc
 use Rattle.sequences.proofs.Conditionals.{no-refusal, neither}
 use Rattle.image.proofs.Storing.{IsLast, is-last}
 use Rattle.commands.specs.Limits.{max_next}
+
+-- what is left of a length, compared without a sum
+pub room-left : (m s n : ℕ) → s ≤ m → ltb (m - s) n ≡ ltb m (s + n)
+room-left m s n h =
+    ⊎_elim (λ k. lt-ltb (m - s) n (omega arith) ∙ sym (lt-ltb m (s + n) k))
+    (λ k. le-ltb (m - s) n (omega arith) ∙ sym (le-ltb m (s + n) k)) (lt_or_le m (s + n))
+
+-- the number one below the next, which is not 0
+pub one_below : (number next : ℕ) → (next ≡ 0 → ⊥) → eqb number (next - 1) ≡ eqb (number + 1) next
+one_below number next some = go (eqb (number + 1) next) refl
+  where
+    go : (b : Bool) → eqb (number + 1) next ≡ b → eqb number (next - 1) ≡ b
+    go true e = let below = eqb-true (number + 1) next e in eq-eqb number (next - 1) (omega arith)
+    go false e = let other = eqb-false (number + 1) next e in ne_eqb number (next - 1) (λ same. other (omega arith))
 
 positive : (n : ℕ) {m : ℕ} → (n ≡ 0 → ⊥) → m ≡ n → 0 < m
 positive n some e = omega (arith, e)

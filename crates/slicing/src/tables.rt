@@ -18,10 +18,9 @@ pub trait Tables {
     // That they are those of a kind.
     ghost are_right: { Kind → Self → Type 0 };
 
-    // Table n, at x.
+    // Table n, at x. A number that no table has gives another's entry.
     fn at(&self, n: usize, x: u8) -> Self::Register
-        requires { n < COUNT }
-        ensures { (k : Kind) → are_right k self.now → Self.Register.number result ≡ zero_bytes k n (byte_step k 0 x) };
+        ensures { (k : Kind) → n < COUNT → are_right k self.now → Self.Register.number result ≡ zero_bytes k n (byte_step k 0 x) };
 
     ghost is_some: { 0 < COUNT };
 }
@@ -37,8 +36,9 @@ impl Tables for [u16; 256] {
 
     // The sum of the entries of its nibbles.
     fn at(&self, n: usize, x: u8) -> u16 {
-        let i = n * 32 + (x % 16) as usize;
-        let j = n * 32 + 16 + (x / 16) as usize;
+        let from = n % 8 * 32;
+        let i = from + (x % 16) as usize;
+        let j = from + 16 + (x / 16) as usize;
         self[i] ^ self[j]
     }
 
@@ -56,8 +56,9 @@ impl Tables for [u32; 512] {
 
     // The sum of the entries of its nibbles.
     fn at(&self, n: usize, x: u8) -> u32 {
-        let i = n * 32 + (x % 16) as usize;
-        let j = n * 32 + 16 + (x / 16) as usize;
+        let from = n % 16 * 32;
+        let i = from + (x % 16) as usize;
+        let j = from + 16 + (x / 16) as usize;
         self[i] ^ self[j]
     }
 

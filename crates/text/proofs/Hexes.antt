@@ -5,7 +5,7 @@ use mathlib.Core.List.{List, [], ◌∷◌, ◌++◌, append_assoc}
 use Prim.Native.Nat.{ℕ, suc, ◌+◌, ◌*◌, ◌≤◌, ◌<◌}
 use native.Mathlib.Numerals.{add-one}
 use native.Mathlib.Omega.{arith}
-use lib.ListN.{length, take, drop, set, get_or, length-drop}
+use lib.ListN.{length, take, drop, set, get_or, length-append, length-drop}
 use lib.Seq.{take-suc, take_all, take_at, length-take-le, drop-drop}
 use Rattle.text.specs.Hex.{hex_byte, hex_bytes, hex_size, hex_room}
 
@@ -36,6 +36,9 @@ module _ (s room : List ℕ) where
 
   size : (i : ℕ) → i ≤ length s → length (hex_bytes (take i s)) ≡ 2 * i
   size i h = omega (arith, length-hex_bytes (take i s), length-take-le i s h)
+
+  pub length-written : (i : ℕ) → i ≤ length s → 2 * length s ≤ length room → length (written i) ≡ length room
+  length-written i h fits = omega (arith, length-append (hex_bytes (take i s)) (drop (2 * i) room), size i h, length-drop (2 * i) room)
 
   pub written_next : (i : ℕ) → i < length s → 2 * length s ≤ length room
       → set (set (written i) (2 * i) (get_or (hex_byte (get_or s i 0)) 0 0)) (2 * i + 1) (get_or (hex_byte (get_or s i 0)) 1 0) ≡ written (i + 1)

@@ -13,7 +13,7 @@ const STDOUT: i32 = 1;
 pub const SIZE: usize = 65536;
 
 // The first `waiting` bytes of the buffer are still to be written. Once a write has failed none is tried again.
-#[derive(Drop)]
+#[derive(Clone, Copy)]
 pub struct Output {
     pub buffer: [u8; SIZE],
     pub waiting: usize,

@@ -1,6 +1,6 @@
 -- docs/EXCHANGE.md, the words: "Words in any order, each name at most once. Decimal numbers, digits only (1 to 5 of them ..)." What is told
 -- of "A word that is not taken" is no part of this. Assumes nothing.
-use Rattle.std.specs.Prelude.{true, false, cond, ◌||◌, List, ℕ, Option, None, Some, is_some, unwrap_or, ltb, length, drop}
+use Rattle.std.specs.Prelude.{true, false, cond, ◌||◌, List, ℕ, Option, None, Some, is_some, unwrap_or, ltb, eqb, length, drop}
 use Rattle.sequences.specs.Comparing.{begins_with}
 use Rattle.commands.specs.Limits.{min_packet}
 use Rattle.boards.specs.Boards.{first_channel, last_channel}
@@ -49,6 +49,10 @@ in_limits least most (Some n) = cond (ltb n least || ltb most n) None (Some n)
 abbrev pub number_between : ℕ → ℕ → List ℕ → Option ℕ
 number_between least most digits = in_limits least most (number_said digits)
 
+-- a word's place among the arguments; place 0 is not a word's
+abbrev pub place_said : ℕ → Option ℕ
+place_said i = cond (eqb i 0) None (Some i)
+
 module _ (w : Words) where
   -- "A word that is not taken": what the others said stays
   abbrev pub not_taken : Words
@@ -65,7 +69,7 @@ module _ (w : Words) where
   abbrev pub image_said : ℕ → Words
   image_said i =
       record {
-        image = Some i;
+        image = place_said i;
         link = w.link;
         channel = w.channel;
         size = w.size;
@@ -116,7 +120,7 @@ module _ (w : Words) where
   link_said i =
       record {
         image = w.image;
-        link = Some i;
+        link = place_said i;
         channel = w.channel;
         size = w.size;
         is_bad = w.is_bad;

@@ -6,7 +6,7 @@ ghost use Rattle.boards.specs.Boards.{first_channel, last_channel};
 ghost use Rattle.commands.specs.Limits.{min_packet};
 ghost use Rattle.words.specs.Sayings.{most_size, channel_name, size_name, link_name, behind_name, number_between, no_words};
 ghost use Rattle.words.specs.Sayings.{board_channel, packet_size};
-ghost use Rattle.words.specs.Sayings.{not_taken, with_image, with_channel, with_size, with_link, word_said};
+ghost use Rattle.words.specs.Sayings.{not_taken, place_said, with_image, with_channel, with_size, with_link, word_said};
 
 use crate::complaint::complain;
 use bench::CHANNEL;
@@ -91,7 +91,7 @@ impl Words {
         if self.image.is_some() {
             return self.refused(b"image comes once", word);
         }
-        self.image = Some(i);
+        self.image = place_said(i);
         self
     }
 
@@ -134,7 +134,7 @@ impl Words {
         if !is_script_behind(word, b"link=".len()) {
             return self.refused(b"link has the letters p, l, r and s only", word);
         }
-        self.link = Some(i);
+        self.link = place_said(i);
         self
     }
 
@@ -146,6 +146,13 @@ impl Words {
         self.is_bad = true;
         self
     }
+}
+
+// The place of a word among the arguments. Place 0 has the program's name: nothing is kept of what is said there.
+fn place_said(i: usize) -> Option<usize>
+    ensures { result ≡ place_said i }
+{
+    if i == 0 { None } else { Some(i) }
 }
 
 // The number behind the name of a word, which has so many bytes, if it is from `least` to `most`.

@@ -4,8 +4,8 @@ use native.Mathlib.Omega.{arith}
 use lib.ListN.{length, length-take}
 use Rattle.exchange.proofs.exchange.Goals as goal
 
-pub start-requires : goal.start-requires
-start-requires c =
+pub start-started-requires : goal.start-started-requires
+start-started-requires c =
     let image = ap length c.front-image.ensures in
     let front = length-take c.args.n c.args.bytes.now in
     let good = c.well_formed in

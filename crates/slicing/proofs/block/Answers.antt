@@ -16,7 +16,7 @@ pub loop-i-preserved : goal.loop-i-preserved
 loop-i-preserved g c =
     λ k goes right.
     let l = c.loop-i in
-    entries_next k _ _ goes c.args.b.now l.i _ _ _ _ _ _ _ c.loop-i-test.true c.front.ensures (c.at.ensures k right)
+    entries_next k _ _ goes c.args.b.now l.i _ _ _ _ _ _ _ c.loop-i-test.true c.front.ensures (c.at.ensures k (omega arith) right)
     c.plus-sum.ensures c.rest-left.ensures (l.invariant k goes right)
 
 pub returns : goal.returns

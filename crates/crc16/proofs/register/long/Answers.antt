@@ -16,16 +16,10 @@ lent n m h =
     let e = take-replicate {X = ℕ} n m 0 h in
     e ∙ ap (λ (i : ℕ). replicate {A = ℕ} i 0) (sym (ap length e ∙ length-replicate {A = ℕ} n 0))
 
-pub over-requires : goal.over-requires
-over-requires c =
-    let far = c.args.p.now.fold.far in
-    let able = c.requires.1.1 in
-    let most = able.fits in
-    (search rules, ((able.meets, c.requires.0), (search rules, lent (far + far + 512) 672 (omega (arith, most)))))
-
 pub returns : goal.returns
 returns c =
     let p = c.args.p.now in
     let able = c.requires.1.1 in
     c.over.ensures (kind_for p) (refl, refl) c.requires.1.0 able.within able.multiple
     (two_use_up (direction_of p.fold.direction) c.args.register (search rules))
+    (lent (p.fold.far + p.fold.far + 512) 672 (omega (arith, able.fits)))

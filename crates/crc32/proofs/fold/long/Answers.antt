@@ -10,4 +10,4 @@ pub returns : goal.returns
 unfolding crc32
 returns c =
     c.over.ensures crc32 (refl, refl) c.requires.1 within_four offsets-multiple
-    (four_use_up c.args.register (search rules))
+    (four_use_up c.args.register (search rules)) (search rules)

@@ -3,7 +3,7 @@ use Rattle.std.proofs.Common.{◌≡◌, ℕ, List, sym, ap, ◌∙◌, ap₂, �
 use Rattle.link.specs.declared.frame.Frame.{Frame}
 use Rattle.link.specs.declared.link.Link.{Link}
 use Rattle.link.specs.declared.script.Letter.{Letter}
-use Rattle.link.specs.declared.script.Letter.TheVariants.{Pass, Silence}
+use Rattle.link.specs.declared.script.Letter.TheVariants.{Pass, Silence, Other}
 use Rattle.link.specs.declared.script.Script.{Script}
 use Rattle.link.specs.Scripts.{letter_of, after_sending}
 use Rattle.carrier.specs.Sending.{by_letter, sending}
@@ -36,4 +36,6 @@ returns-in-Pass c =
     let on : (letter : Letter) → c.unwrap_or-letter.result ≡ letter → by_letter letter a.self.link c.after_sending-self.result a.memory.now a.frame
     ≡ sending a.self.link a.self.script a.memory.now a.frame a.letters.now =
     λ letter is. by a.self.link a.self.script _ a.memory.now a.frame a.letters.now is c.unwrap_or-letter.ensures c.next.ensures c.after_sending-self.ensures in
-    carries_as (⊎_elim (λ is. on Pass is) (λ is. on Silence is) c.in-Pass.is) c.pass-in-Pass.ensures
+    carries_as
+    (⊎_elim (λ is. on Pass is) (λ rest. ⊎_elim (λ is. on Silence is) (λ other. on (Other other.0) other.1) rest) c.in-Pass.is)
+    c.pass-in-Pass.ensures

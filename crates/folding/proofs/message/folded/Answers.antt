@@ -1,4 +1,4 @@
--- `folding::message::over` meets its contract: the law of folding. Assumes nothing.
+-- `folding::message::folded` meets its contract: the law of folding. Assumes nothing.
 use borrow.Author.Rules.{rules}
 use mathlib.Core.Path.{◌≡◌, ap, subst, ◌∙◌}
 use mathlib.Core.List.{List}
@@ -10,11 +10,11 @@ use Rattle.crc.specs.Crc.{update}
 use Rattle.crc.specs.Folding.{Carries, met, unswept}
 use Rattle.crc.proofs.Bounds.{unsweeps}
 use Rattle.crc.proofs.Folding.{folded, within_wider}
-use Rattle.folding.proofs.message.over.Goals as goal
+use Rattle.folding.proofs.message.folded.Goals as goal
 
 pub returns : goal.returns
 returns g c =
-    λ k goes right within multiple none.
+    λ k goes right within multiple none zeros.
     let o = c.args in
     let d = o.f.now.far in
     let offs = o.f.now.offsets in
@@ -29,7 +29,7 @@ returns g c =
     ∙ ap (λ (x : ℕ). update k x c.unsweep.new.u) c.none.ensures
     ∙ folded k d offs one (omega (arith, octet, goes.0)) (length o.b.now) (d - n) n _ o.s.now _ b _ (omega arith) within (omega arith)
     c.requires.meets.1 none
-    (c.put_head.ensures k goes ∙ ap (λ (l : List ℕ). sets l (d + (d - n)) head) c.requires.zeros)
+    (c.put_head.ensures k goes ∙ ap (λ (l : List ℕ). sets l (d + (d - n)) head) zeros)
     (subst (λ (m : ℕ). Carries k d offs (take (length o.s.now - m) (drop m o.s.now)) c.put_head.new.b b) c.BYTES.ensures
     (c.all.ensures k one multiple))
     long
