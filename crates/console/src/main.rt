@@ -48,8 +48,8 @@ fn main(rt: HostRuntime) {
     finish(run, &mut output);
 }
 
-// Turns until the session is over, from where no line waits yet. A proved loop has to end, and nothing says that the input does: there are as many turns as no session
-// uses up.
+// Turns until the session is over, from where no line waits yet. A proved loop has to end, and nothing says that the input does: there are
+// as many turns as no session uses up.
 fn session(
     stdin: Stdin,
     input: &mut [u8; INPUT],

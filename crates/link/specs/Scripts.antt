@@ -24,11 +24,12 @@ is_letter b = b == pass || (b == lose || (b == repeat || b == silence))
 abbrev pub all_letters : List ℕ → Bool
 all_letters s = list_all is_letter s
 
--- what a byte says: one that is no letter stands as it is, and 0 is none
+-- what a byte says: one that is no letter, which no script of the program's words has, stands as it is, and 0 is none
 abbrev pub letter_said : ℕ → Option Letter
 letter_said b =
     cond (b == pass) (Some Pass)
-    (cond (b == lose) (Some Lose) (cond (b == repeat) (Some Repeat) (cond (b == silence) (Some Silence) (cond (b == 0) None (Some (Other b))))))
+    (cond (b == lose) (Some Lose)
+    (cond (b == repeat) (Some Repeat) (cond (b == silence) (Some Silence) (cond (b == 0) None (Some (Other b))))))
 
 -- the next letter, if one is left
 abbrev pub letter_of : Script → List ℕ → Option Letter

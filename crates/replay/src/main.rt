@@ -30,8 +30,8 @@ fn main(rt: HostRuntime) {
     report(run, &mut output);
 }
 
-// Turns until the run is over, from where no line waits yet. A proved loop has to end, and nothing says that the input does: the turns are counted up to a
-// number that no run comes to.
+// Turns until the run is over, from where no line waits yet. A proved loop has to end, and nothing says that the input does: the turns are
+// counted up to a number that no run comes to.
 fn replay(stdin: Stdin, input: &mut [u8; INPUT], output: &mut Output, area: &mut [u8; AREA]) -> Run
     requires { output.old ≡ nothing }
     ensures { Replayed

@@ -49,7 +49,7 @@ in_limits least most (Some n) = cond (ltb n least || ltb most n) None (Some n)
 abbrev pub number_between : ℕ → ℕ → List ℕ → Option ℕ
 number_between least most digits = in_limits least most (number_said digits)
 
--- a word's place among the arguments; place 0 is not a word's
+-- a word's place among the arguments, which docs/EXCHANGE.md leaves open: place 0 has the program's name and is no word's
 abbrev pub place_said : ℕ → Option ℕ
 place_said i = cond (eqb i 0) None (Some i)
 

@@ -10,5 +10,5 @@ returns c =
     λ area.
     let a = c.args in
     let r = c.request in
-    subst (λ (o : Output). TurnMade (request_turn (dialogue_of a.started a.memory.now area) a.image.now a.letters.now) o r.result r.new.memory area r.new.output)
-    c.requires (r.ensures area)
+    let turn = request_turn (dialogue_of a.started a.memory.now area) a.image.now a.letters.now in
+    subst (λ (o : Output). TurnMade turn o r.result r.new.memory area r.new.output) c.requires (r.ensures area)
